@@ -1,0 +1,6 @@
+use borrow.Author.Needs.{needs}
+use Rattle.words.proofs.Members.{holds-union}
+use Rattle.words.proofs.narrow.Set32.union.Needs as need
+
+pub returns : need.returns
+returns c = search (needs, holds-union)

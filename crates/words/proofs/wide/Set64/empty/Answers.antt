@@ -1,0 +1,6 @@
+use borrow.Author.Needs.{needs}
+use Rattle.words.proofs.Members.{holds-zero}
+use Rattle.words.proofs.wide.Set64.empty.Needs as need
+
+pub returns : need.returns
+returns c = search (needs, holds-zero)

@@ -1,0 +1,6 @@
+use borrow.Author.Needs.{needs}
+use Rattle.words.proofs.Members.{decides-zero}
+use Rattle.words.proofs.wide.Set64.is_empty.Needs as need
+
+pub returns : need.returns
+returns c = search (needs, decides-zero)
