@@ -1,0 +1,3 @@
+pub mod Pairs
+pub mod Formulas
+pub mod Tables
