@@ -1,0 +1,4 @@
+pub mod Machines
+pub mod Plateaus
+pub mod Rows
+pub mod Stretches

@@ -1,0 +1,19 @@
+-- Stretches: the stretch counter, and the SEQBIN count that it comes to. Assumes nothing.
+use mathlib.Core.Bool.{Bool, cond, not}
+use mathlib.Core.List.{List}
+use Prim.Native.Nat.{ℕ, zero, suc, _+_, _-_, min}
+use lib.ListN.{length, getD}
+use Rattle.tallies.specs.Machines.{Machine, on-states}
+
+-- The stretch counter over the pairs C: a state is the number of stretches so far, up to 63.
+abbrev pub stretch-machine : (ℕ → ℕ → Bool) → Machine
+stretch-machine C = on-states 64 (record { start = λ v. 1; step = λ s v w. cond (C v w) s (min (s + 1) 63); result = λ s. s })
+
+-- how many positions below n pass the test p
+unfoldable pub how-many : (ℕ → Bool) → ℕ → ℕ
+how-many p zero = 0
+how-many p (suc n) = cond (p n) 1 0 + how-many p n
+
+-- SEQBIN: 1 and the number of positions at which a hatching and the next are not a pair of C
+abbrev pub seqbin : (ℕ → ℕ → Bool) → List ℕ → ℕ
+seqbin C xs = 1 + how-many (λ i. not (C (getD xs i 0) (getD xs (i + 1) 0))) (length xs - 1)

@@ -1,0 +1,65 @@
+// The stretch counter.
+ghost use mathlib.Core.Path.{_≡_};
+ghost use Prim.Native.Nat.{_≤_, min};
+ghost use lib.ListN.{length};
+ghost use Rattle.std.specs.Results.{Cases};
+ghost use Rattle.std.specs.Vec.{made};
+ghost use Rattle.tallies.specs.Machines.{outcome};
+ghost use Rattle.tallies.specs.Rows.{Faulty, Finished};
+ghost use Rattle.tallies.specs.Stretches.{seqbin, stretch-machine};
+use crate::finished::RowFault;
+use crate::finished::check_finished;
+use crate::outcome::outcome_of;
+use crate::tally::StateCount;
+use crate::tally::Tally;
+use rules::NeighbourRule;
+
+// Counts the stretches of a row: a new one begins where two neighbours are not a pair of the rule.
+#[derive(Clone, Copy)]
+pub struct StretchCounter<C> {
+    pub rule: C,
+}
+
+pub impl<C: NeighbourRule> Tally for StretchCounter<C> as StretchTally {
+    const STATES: StateCount = StateCount::MOST;
+
+    ghost states = { 64 };
+
+    ghost machine = { λ t. stretch-machine (C·NeighbourRule .pairs (t .rule)) };
+
+    fn state_count() -> StateCount {
+        StateCount::MOST
+    }
+
+    fn start(&self, v: u32) -> u32 {
+        if v < 32 { 1 } else { 0 }
+    }
+
+    fn step(&self, s: u32, v: u32, w: u32) -> u32 {
+        if s >= 64 || v >= 32 || w >= 32 {
+            return 0;
+        }
+        if self.rule.allows(v, w) {
+            s
+        } else {
+            (s + 1).min(63)
+        }
+    }
+
+    fn result(&self, s: u32) -> u32 {
+        if s < 64 { s } else { 0 }
+    }
+}
+
+impl<C: NeighbourRule> StretchCounter<C> {
+    // How many stretches a finished row has.
+    // The counter's result is the SEQBIN count up to 63, and for at most 60 parts that count itself.
+    pub fn stretches(&self, row: &[u32]) -> Result<u32, RowFault>
+        ensures result { λ r. ⌜ Cases r (λ k. Finished (now (row .entry)) × (k ≡ outcome (stretch-machine (C·NeighbourRule .pairs (now (self .entry) .rule))) (now (row .entry)))) (Faulty (now (row .entry))) ⌝ }
+        ensures counts { λ r. ⌜ made r (λ k. k ≡ min (seqbin (C·NeighbourRule .pairs (now (self .entry) .rule)) (now (row .entry))) 63) ⌝ }
+        ensures exact { λ r. ⌜ made r (λ k. length (now (row .entry)) ≤ 60 → k ≡ seqbin (C·NeighbourRule .pairs (now (self .entry) .rule)) (now (row .entry))) ⌝ }
+    {
+        check_finished(row)?;
+        Ok(outcome_of(self, row))
+    }
+}

@@ -1,0 +1,55 @@
+// What every tally is.
+ghost use mathlib.Core.Path.{_≡_};
+ghost use Prim.Native.Nat.{ℕ, _<_, _≤_};
+ghost use Rattle.tallies.specs.Machines.{Machine, Zero-outside};
+
+// A number of states: from 1 to 64.
+#[derive(Clone, Copy)]
+pub struct StateCount {
+    pub value: u32,
+    ghost some: { 0 < value },
+    ghost few: { value ≤ 64 },
+}
+
+impl StateCount {
+    // The most that a tally can have.
+    pub const MOST: StateCount = StateCount { value: 64 };
+}
+
+pub trait Tally {
+    // How many states the tally has. States are numbered from 0.
+    const STATES: StateCount;
+
+    ghost states: { ℕ };
+
+    // what the tally means: start, step and result
+    ghost machine: { Self → Machine };
+
+    law some: { 0 < states };
+
+    law few: { states ≤ 64 };
+
+    law starts: { (t : Self) (v : ℕ) → machine t .start v < states };
+
+    law steps: { (t : Self) (s v w : ℕ) → machine t .step s v w < states };
+
+    law results: { (t : Self) (s : ℕ) → machine t .result s < 64 };
+
+    law outside: { (t : Self) → Zero-outside states (machine t) };
+
+    // The constant, for code that is generic over tallies.
+    fn state_count() -> StateCount
+        ensures { λ r. ⌜ r .value ≡ states ⌝ };
+
+    // The state after the first hatching v of a row.
+    fn start(&self, v: u32) -> u32
+        ensures { λ r. ⌜ r ≡ machine (now (self .entry)) .start v ⌝ };
+
+    // The state after w, where it was s after v.
+    fn step(&self, s: u32, v: u32, w: u32) -> u32
+        ensures { λ r. ⌜ r ≡ machine (now (self .entry)) .step s v w ⌝ };
+
+    // The number that the last state s comes to.
+    fn result(&self, s: u32) -> u32
+        ensures { λ r. ⌜ r ≡ machine (now (self .entry)) .result s ⌝ };
+}
