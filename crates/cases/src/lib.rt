@@ -1,0 +1,7 @@
+// Worked examples of the layers below, run as tests.
+#[cfg(test)]
+mod counts;
+#[cfg(test)]
+mod neighbours;
+#[cfg(test)]
+mod sets;
