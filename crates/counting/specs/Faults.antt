@@ -2,7 +2,7 @@
 use mathlib.Core.Path.{_≡_}
 use mathlib.Core.Logic.{_⊎_}
 use mathlib.Core.List.{List}
-use Prim.Native.Nat.{ℕ, _<_}
+use Prim.Native.Nat.{ℕ, _<_, _≤_}
 use lib.ListN.{length}
 use Rattle.tallies.specs.Rows.{Faulty}
 use Rattle.tallies.specs.declared.finished.RowFault.{RowFault}
@@ -11,6 +11,7 @@ use Rattle.counting.specs.declared.fault.LineFault.{LineFault}
 use Rattle.counting.specs.declared.fault.LineFault.the-variants.{NoParts, NoNumber, TooHigh, TooMany, Memory}
 use Rattle.counting.specs.Lines.{First-unread, Reads, words}
 
+-- the same fault, told of a line
 abbrev pub of-row : RowFault → LineFault
 of-row Empty = NoParts
 of-row (Above i) = TooHigh i
@@ -19,7 +20,7 @@ of-row (Above i) = TooHigh i
 abbrev pub Uncounted : List ℕ → LineFault → Type 0
 Uncounted xs NoParts = Faulty xs Empty
 Uncounted xs (NoNumber k) = ⊥
-Uncounted xs (TooHigh i) = Faulty xs (Above i)
+Uncounted xs (TooHigh i) = (length xs ≤ 60) × Faulty xs (Above i)
 Uncounted xs (TooMany n) = (n ≡ length xs) × (60 < n)
 Uncounted xs Memory = ⊥
 

@@ -2,6 +2,9 @@
 ghost use mathlib.Core.List.{List};
 ghost use Prim.Native.Nat.{ℕ};
 ghost use Rattle.std.specs.Results.{Cases};
+ghost use Rattle.rules.specs.Formulas.{formula-pairs};
+ghost use Rattle.tallies.specs.Rows.{Faulty};
+ghost use Rattle.tallies.specs.Stretches.{Stretches};
 ghost use Rattle.counting.specs.Counts.{Counted};
 ghost use Rattle.counting.specs.Faults.{Told, Uncounted};
 ghost use Rattle.counting.specs.Lines.{Reads};
@@ -12,6 +15,7 @@ use rules::FormulaPairs;
 use rules::FormulaRule;
 use std::alloc::Global;
 use tallies::PlateauCounter;
+use tallies::RowFault;
 use tallies::StretchCounter;
 
 // The stretches of a row over each formula, and its longest run.
@@ -27,6 +31,13 @@ pub struct Counts {
     pub longest_run: u32,
 }
 
+// The stretches of a finished row over one formula.
+fn over(rule: FormulaRule, row: &[u32]) -> Result<u32, RowFault>
+    ensures { λ r. ⌜ Cases r (Stretches (formula-pairs rule) (now (row .entry))) (Faulty (now (row .entry))) ⌝ }
+{
+    StretchCounter { rule }.stretches(row)
+}
+
 // Counts a finished row of at most 60 parts; r is the number of the last two formulas.
 pub fn counts_of(row: &[u32], r: u32) -> Result<Counts, LineFault>
     ensures { λ c. ⌜ Cases c (Counted r (now (row .entry))) (Uncounted (now (row .entry))) ⌝ }
@@ -34,27 +45,13 @@ pub fn counts_of(row: &[u32], r: u32) -> Result<Counts, LineFault>
     if row.len() > 60 {
         return Err(LineFault::TooMany(row.len()));
     }
-    let always = StretchCounter {
-        rule: FormulaRule::Always,
-    }.stretches(row)?;
-    let equal = StretchCounter {
-        rule: FormulaRule::Equal,
-    }.stretches(row)?;
-    let different = StretchCounter {
-        rule: FormulaRule::Different,
-    }.stretches(row)?;
-    let less = StretchCounter {
-        rule: FormulaRule::Less,
-    }.stretches(row)?;
-    let at_most = StretchCounter {
-        rule: FormulaRule::AtMost,
-    }.stretches(row)?;
-    let within = StretchCounter {
-        rule: FormulaRule::Within(r),
-    }.stretches(row)?;
-    let both_at_least = StretchCounter {
-        rule: FormulaRule::BothAtLeast(r),
-    }.stretches(row)?;
+    let always = over(FormulaRule::Always, row)?;
+    let equal = over(FormulaRule::Equal, row)?;
+    let different = over(FormulaRule::Different, row)?;
+    let less = over(FormulaRule::Less, row)?;
+    let at_most = over(FormulaRule::AtMost, row)?;
+    let within = over(FormulaRule::Within(r), row)?;
+    let both_at_least = over(FormulaRule::BothAtLeast(r), row)?;
     let longest_run = PlateauCounter.longest_run(row)?;
     Ok(Counts {
         always,

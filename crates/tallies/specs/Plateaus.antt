@@ -5,7 +5,8 @@ use mathlib.Core.List.{List}
 use Prim.Native.Nat.{ℕ, _+_, _-_, _*_, _/_, _%_, _<_, _≤_, min, max}
 use lib.Dec.{eqb}
 use lib.ListN.{length, getD}
-use Rattle.tallies.specs.Machines.{Machine, on-states}
+use Rattle.tallies.specs.Machines.{Machine, on-states, outcome}
+use Rattle.tallies.specs.Rows.{Finished}
 
 -- A state of the plateau counter holds the current run and the longest run, both from 1 to 8; 8 is eight or more.
 abbrev pub runs : ℕ → ℕ → ℕ
@@ -37,3 +38,11 @@ pub record Run (xs : List ℕ) (i k : ℕ) : Type 0 where
 pub record Longest-plateau (xs : List ℕ) (m : ℕ) : Type 0 where
   pub some : (i : ℕ) × Run xs i m
   pub most : (i k : ℕ) → Run xs i k → k ≤ m
+
+-- What the plateau counter tells of a row xs: a longest run of k.
+pub record Measures (xs : List ℕ) (k : ℕ) : Type 0 where
+  pub finished : Finished xs
+  -- it is the counter's result,
+  pub result : k ≡ outcome plateau-machine xs
+  -- which is the LONGESTPLATEAU up to 8
+  pub longest : (m : ℕ) × (Longest-plateau xs m × (k ≡ min m 8))

@@ -1,11 +1,7 @@
 // The plateau counter.
-ghost use mathlib.Core.Path.{_≡_};
-ghost use Prim.Native.Nat.{ℕ, min};
 ghost use Rattle.std.specs.Results.{Cases};
-ghost use Rattle.std.specs.Vec.{made};
-ghost use Rattle.tallies.specs.Machines.{outcome};
-ghost use Rattle.tallies.specs.Plateaus.{Longest-plateau, plateau-machine};
-ghost use Rattle.tallies.specs.Rows.{Faulty, Finished};
+ghost use Rattle.tallies.specs.Plateaus.{Measures, plateau-machine};
+ghost use Rattle.tallies.specs.Rows.{Faulty};
 use crate::finished::RowFault;
 use crate::finished::check_finished;
 use crate::outcome::outcome_of;
@@ -25,7 +21,7 @@ pub impl Tally for PlateauCounter as PlateauTally {
     ghost machine = { λ _. plateau-machine };
 
     fn state_count() -> StateCount {
-        StateCount::MOST
+        Self::STATES
     }
 
     fn start(&self, _v: u32) -> u32 {
@@ -50,8 +46,7 @@ impl PlateauCounter {
     // How long the longest run of a finished row is.
     // The counter's result is the LONGESTPLATEAU up to 8; a run counts even where it is the last and no step ends it.
     pub fn longest_run(&self, row: &[u32]) -> Result<u32, RowFault>
-        ensures result { λ r. ⌜ Cases r (λ k. Finished (now (row .entry)) × (k ≡ outcome plateau-machine (now (row .entry)))) (Faulty (now (row .entry))) ⌝ }
-        ensures measures { λ r. ⌜ made r (λ k. (m : ℕ) × (Longest-plateau (now (row .entry)) m × (k ≡ min m 8))) ⌝ }
+        ensures { λ r. ⌜ Cases r (Measures (now (row .entry))) (Faulty (now (row .entry))) ⌝ }
     {
         check_finished(row)?;
         Ok(outcome_of(self, row))

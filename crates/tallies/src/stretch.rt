@@ -1,12 +1,7 @@
 // The stretch counter.
-ghost use mathlib.Core.Path.{_≡_};
-ghost use Prim.Native.Nat.{_≤_, min};
-ghost use lib.ListN.{length};
 ghost use Rattle.std.specs.Results.{Cases};
-ghost use Rattle.std.specs.Vec.{made};
-ghost use Rattle.tallies.specs.Machines.{outcome};
-ghost use Rattle.tallies.specs.Rows.{Faulty, Finished};
-ghost use Rattle.tallies.specs.Stretches.{seqbin, stretch-machine};
+ghost use Rattle.tallies.specs.Rows.{Faulty};
+ghost use Rattle.tallies.specs.Stretches.{Stretches, stretch-machine};
 use crate::finished::RowFault;
 use crate::finished::check_finished;
 use crate::outcome::outcome_of;
@@ -55,9 +50,7 @@ impl<C: NeighbourRule> StretchCounter<C> {
     // How many stretches a finished row has.
     // The counter's result is the SEQBIN count up to 63, and for at most 60 parts that count itself.
     pub fn stretches(&self, row: &[u32]) -> Result<u32, RowFault>
-        ensures result { λ r. ⌜ Cases r (λ k. Finished (now (row .entry)) × (k ≡ outcome (stretch-machine (C·NeighbourRule .pairs (now (self .entry) .rule))) (now (row .entry)))) (Faulty (now (row .entry))) ⌝ }
-        ensures counts { λ r. ⌜ made r (λ k. k ≡ min (seqbin (C·NeighbourRule .pairs (now (self .entry) .rule)) (now (row .entry))) 63) ⌝ }
-        ensures exact { λ r. ⌜ made r (λ k. length (now (row .entry)) ≤ 60 → k ≡ seqbin (C·NeighbourRule .pairs (now (self .entry) .rule)) (now (row .entry))) ⌝ }
+        ensures { λ r. ⌜ Cases r (Stretches (C·NeighbourRule .pairs (now (self .entry) .rule)) (now (row .entry))) (Faulty (now (row .entry))) ⌝ }
     {
         check_finished(row)?;
         Ok(outcome_of(self, row))

@@ -20,21 +20,26 @@ pub trait Tally {
     // How many states the tally has. States are numbered from 0.
     const STATES: StateCount;
 
+    // the same number, for clauses
     ghost states: { ℕ };
 
     // what the tally means: start, step and result
     ghost machine: { Self → Machine };
 
+    // there is a state, and there are at most 64
     law some: { 0 < states };
 
     law few: { states ≤ 64 };
 
+    // each state given is one of the tally's
     law starts: { (t : Self) (v : ℕ) → machine t .start v < states };
 
     law steps: { (t : Self) (s v w : ℕ) → machine t .step s v w < states };
 
+    // each result is below 64
     law results: { (t : Self) (s : ℕ) → machine t .result s < 64 };
 
+    // 0 for a state that is none of the tally's, or a hatching above 31
     law outside: { (t : Self) → Zero-outside states (machine t) };
 
     // The constant, for code that is generic over tallies.

@@ -1,3 +1,4 @@
+use borrow.Author.Needs.{needs}
 use mathlib.Core.Path.{_≡_, sym, ap, _∙_}
 use mathlib.Core.Bool.{true, false, cond, _&&_}
 use Prim.Native.Nat.{ℕ, _+_, _-_, _*_, min}
@@ -30,10 +31,11 @@ loop-b-again c =
     let w = c .args .word .now in
     let i = c .loop-b .b-index in
     let here : allDigits (drop i w) ≡ (asciiDigit (getD w i 0) && allDigits (drop (i + 1) w)) = at-drop-more allDigits w i 0 (c .loop-b-test .taken) in
+    let times : c .saturating-mul .result ≡ min (c .loop-b .value * 10) 4294967295 = search needs in
     let more = folded-more (λ n b. 10 * n + (b - 48)) 0 w i 0 (c .loop-b-test .taken) in (
       ap (λ b. b && allDigits (drop (i + 1) w)) (c .if-not-is-ascii-digit .ensures tt .value) ∙ sym here ∙ c .loop-b .inv .0,
       c .saturating-add-value .ensures ∙ ap (λ (d : ℕ). min (c .saturating-mul .result + d) 4294967295) (c .from .ensures)
-          ∙ next-value (decimal-value (take i w)) (getD w i 0 - 48) (c .loop-b .value) (c .saturating-mul .result) (c .loop-b .inv .1) (c .saturating-mul .ensures)
+          ∙ next-value (decimal-value (take i w)) (getD w i 0 - 48) (c .loop-b .value) (c .saturating-mul .result) (c .loop-b .inv .1) times
           ∙ ap (λ (n : ℕ). min n 4294967295) (sym more),
     )
 

@@ -8,4 +8,4 @@ returns c =
     let xs = c .args .row .now in
     let row : Finished xs = c .in-Continue-check-finished .ensures tt in
     let measured = plateau-outcome xs row in
-    record { result = (row, search needs); measures = (measured .0, (measured .1 .0, cc (measured .1 .1))) }
+    record { finished = row; result = search needs; longest = (measured .0, (measured .1 .0, cc (measured .1 .1))) }

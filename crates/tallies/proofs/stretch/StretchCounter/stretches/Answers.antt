@@ -10,4 +10,4 @@ returns g c =
     let row : Finished xs = c .in-Continue-check-finished .ensures tt in
     let counted = stretch-outcome pairs xs row in
     let exact = seqbin-exact pairs xs row in
-    record { result = (row, search needs); counts = cc; exact = λ short. cc (exact short) }
+    record { finished = row; result = search needs; counts = cc; exact = λ short. cc (exact short) }
