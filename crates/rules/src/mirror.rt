@@ -18,9 +18,10 @@ pub impl<R: NeighbourRule> NeighbourRule for Mirror<R> as MirrorPairs {
 }
 
 impl<R: NeighbourRule> Mirror<Mirror<R>> {
-    // Asks the outer mirror. A mirror over a mirror has the innermost set.
+    // Asks the outer mirror. A mirror over a mirror has the innermost set, so the innermost rule's answer comes.
     pub fn allows_as_innermost(&self, a: u32, b: u32) -> bool
-        ensures { λ r. ⌜ r ≡ R·NeighbourRule .pairs (now (self .entry) .rule .rule) a b ⌝ }
+        ensures set { λ _. ⌜ mirrored (mirrored (R·NeighbourRule .pairs (now (self .entry) .rule .rule))) ≡ R·NeighbourRule .pairs (now (self .entry) .rule .rule) ⌝ }
+        ensures answer { λ r. ⌜ r ≡ R·NeighbourRule .pairs (now (self .entry) .rule .rule) a b ⌝ }
     {
         self.allows(a, b)
     }

@@ -1,6 +1,6 @@
 -- Plateaus: the plateau counter, and the LONGESTPLATEAU that it comes to. Assumes nothing.
 use mathlib.Core.Path.{_≡_}
-use mathlib.Core.Bool.{Bool, cond}
+use mathlib.Core.Bool.{cond}
 use mathlib.Core.List.{List}
 use Prim.Native.Nat.{ℕ, _+_, _-_, _*_, _/_, _%_, _<_, _≤_, min, max}
 use lib.Dec.{eqb}
@@ -12,6 +12,7 @@ use Rattle.tallies.specs.Rows.{Finished}
 abbrev pub runs : ℕ → ℕ → ℕ
 runs current longest = 8 * (current - 1) + (longest - 1)
 
+-- the two again, out of a state
 abbrev pub current-run : ℕ → ℕ
 current-run s = s / 8 + 1
 
@@ -22,6 +23,7 @@ longest-run s = s % 8 + 1
 abbrev pub run-after : ℕ → ℕ → ℕ → ℕ
 run-after k v w = cond (eqb v w) (min (k + 1) 8) 1
 
+-- The plateau counter.
 abbrev pub plateau-machine : Machine
 plateau-machine = on-states 64 (record {
   start = λ v. runs 1 1;
