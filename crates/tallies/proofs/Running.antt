@@ -1,9 +1,8 @@
 -- The plateau counter comes to the LONGESTPLATEAU. Assumes nothing.
 use mathlib.Core.Path.{_≡_, sym, ap, ap₂, _∙_, subst}
 use mathlib.Core.Logic.{_⊎_, inl, inr}
-use mathlib.Core.Bool.{cond}
 use mathlib.Core.List.{List}
-use Prim.Native.Nat.{ℕ, zero, suc, _+_, _-_, _*_, _/_, _%_, _≤_, _<_, min, max}
+use Prim.Native.Nat.{ℕ, zero, suc, _+_, _-_, _≤_, _<_, min, max}
 use native.Mathlib.Omega.{arith}
 use lib.Dec.{eqb, ltb}
 use lib.ListN.{length, getD, take}
@@ -11,7 +10,7 @@ use Rattle.std.proofs.shelf.Lists.{take-all}
 use Rattle.std.proofs.shelf.Tests.{lt-ltb, eq-eqb, ne-eqb, cond-true, cond-false, cases-eq, cases-lt}
 use Rattle.tallies.specs.Machines.{outcome, state}
 use Rattle.tallies.specs.Rows.{Finished}
-use Rattle.tallies.specs.Plateaus.{Run, Longest-plateau, current-run, longest-run, plateau-machine, run-after, runs}
+use Rattle.tallies.specs.Plateaus.{Longest-plateau, current-run, longest-run, plateau-machine, run-after, runs}
 use Rattle.tallies.proofs.Reading.{state-one, state-more}
 
 -- the k hatchings from position i on are equal

@@ -114,12 +114,3 @@ in-below n w k h i = go (cases-order n k)
 pub no-bits : (w : ℕ) → ((k : ℕ) → bit w k ≡ 0) → w ≡ 0
 no-bits = bin-ind (λ (w : ℕ). ((k : ℕ) → bit w k ≡ 0) → w ≡ 0) (λ h. refl)
     (λ w ih h. let e : w / 2 ≡ 0 = ih (λ k. bit-half w k ∙ h (suc k)) in omega (arith, bit-low w, h 0))
-
--- words with the same bits are equal
-pub same-word : (a b : ℕ) → ((k : ℕ) → bit a k ≡ bit b k) → a ≡ b
-same-word =
-    bin-ind (λ (a : ℕ). (b : ℕ) → ((k : ℕ) → bit a k ≡ bit b k) → a ≡ b)
-    (λ b h. sym (no-bits b (λ k. sym (h k) ∙ bit-zero k)))
-    (λ a ih b h.
-    let e : a / 2 ≡ b / 2 = ih (b / 2) (λ k. bit-half a k ∙ h (suc k) ∙ sym (bit-half b k)) in
-    omega (arith, bit-low a, bit-low b, h 0))
