@@ -2,6 +2,7 @@
 use counting::Counts;
 use counting::LineFaultDisplay;
 use counting::count_line;
+use counting::whole_number;
 use std::env;
 use std::error::AnyError;
 use std::io;
@@ -28,16 +29,16 @@ fn show(rt: &LibcRuntime, line: u64, r: u32, c: Counts) -> io::Result<()> {
     )
 }
 
-// The r of the last two formulas: the first argument, or 1.
+// The r of the last two formulas: the one argument, or 1.
 fn argument(rt: &LibcRuntime) -> Result<u32, AnyError> {
     let mut args = env::args(rt)?;
     let _program = args.next();
-    match args.next() {
-        None => Ok(1),
-        Some(text) => match text.parse::<u32>() {
-            Ok(r) => Ok(r),
-            Err(_) => Err("the argument r is a number from 0 to 4294967295".into()),
-        },
+    let Some(text) = args.next() else {
+        return Ok(1);
+    };
+    match (whole_number(&text), args.next()) {
+        (Some(r), None) => Ok(r),
+        _ => Err("the one argument is r, a number from 0 to 4294967295".into()),
     }
 }
 

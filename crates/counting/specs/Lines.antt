@@ -2,7 +2,7 @@
 use mathlib.Core.Path.{_≡_}
 use mathlib.Core.Bool.{Bool, true, false, cond, not, _||_}
 use mathlib.Core.List.{List, [], _∷_, _++_, map}
-use Prim.Native.Nat.{ℕ, _+_, _-_, _*_, _<_, min}
+use Prim.Native.Nat.{ℕ, _+_, _-_, _*_, _^_, _<_, min}
 use lib.Dec.{eqb}
 use lib.ListN.{length, getD}
 use Rattle.std.specs.Iters.{folded}
@@ -34,9 +34,17 @@ words-after word (b ∷ bs) = cond (blank b) (ended word (words-after [] bs)) (w
 abbrev pub words : List ℕ → List (List ℕ)
 words line = words-after [] line
 
+-- the decimal number that digits write behind those of n
+abbrev pub decimal-after : ℕ → List ℕ → ℕ
+decimal-after n digits = folded (λ m b. 10 * m + (b - 48)) n digits
+
 -- the decimal number that digits write
 abbrev pub decimal-value : List ℕ → ℕ
-decimal-value word = folded (λ n b. 10 * n + (b - 48)) 0 word
+decimal-value digits = decimal-after 0 digits
+
+-- a text that is a number of 32 bits: digits, at least one, and no sign
+abbrev pub Whole-number : List ℕ → Type 0
+Whole-number text = (allDigits text ≡ true) × (0 < length text) × (decimal-value text < 2 ^ 32)
 
 -- the number that a word writes, up to the largest of 32 bits; none where a byte is no digit
 abbrev pub number-of : List ℕ → Option ℕ

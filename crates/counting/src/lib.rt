@@ -9,3 +9,4 @@ pub use counts::counts_of;
 pub use fault::LineFault;
 pub use fault::LineFaultDisplay;
 pub use line::numbers;
+pub use line::whole_number;

@@ -8,7 +8,7 @@ ghost use Rattle.std.specs.Options.{Cases as BySome};
 ghost use Rattle.std.specs.Results.{Cases};
 ghost use Rattle.std.specs.shelf.Lists.{leading};
 ghost use Rattle.counting.specs.Faults.{Unread};
-ghost use Rattle.counting.specs.Lines.{Reads, blank, number-of, of-kind, words};
+ghost use Rattle.counting.specs.Lines.{Reads, Whole-number, blank, decimal-value, number-of, of-kind, words};
 use crate::fault::LineFault;
 use crate::fault::LineFaultFromAlloc;
 use crate::fault::LineFaultFromRefused;
@@ -75,4 +75,17 @@ pub fn numbers(heap: Global, line: &[u8]) -> Result<Vec<u32>, LineFault>
         rest = behind;
     }
     Ok(found)
+}
+
+// The number that a text writes: decimal digits alone, and at most the largest number of 32 bits.
+pub fn whole_number(text: &str) -> Option<u32>
+    ensures { λ n. ⌜ BySome n (Whole-number (now (text .entry)) → ⊥) (λ k. Whole-number (now (text .entry)) × (k ≡ decimal-value (now (text .entry)))) ⌝ }
+{
+    if text.starts_with('+') {
+        return None;
+    }
+    match text.parse::<u32>() {
+        Ok(n) => Some(n),
+        Err(_) => None,
+    }
 }
