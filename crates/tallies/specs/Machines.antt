@@ -5,6 +5,7 @@ use mathlib.Core.Logic.{_⊎_}
 use mathlib.Core.List.{List, [], _∷_}
 use Prim.Native.Nat.{ℕ, _<_, _≤_}
 use lib.Dec.{ltb}
+use Rattle.words.specs.Sets.{In}
 
 -- The three functions of a tally.
 pub record Machine : Type 0 where
@@ -28,6 +29,14 @@ on-states n m = record {
   step = λ s v w. cond (ltb s n && (ltb v 32 && ltb w 32)) (m .step s v w) 0;
   result = λ s. cond (ltb s n) (m .result s) 0;
 }
+
+-- t comes from a state of the set, by the step from v to w
+abbrev pub Image : Machine → ℕ → ℕ → ℕ → ℕ → Type 0
+Image m set v w t = (s : ℕ) × (In s set × (m .step s v w ≡ t))
+
+-- s is a state of the set, and the step from v to w takes it into the target
+abbrev pub Preimage : Machine → ℕ → ℕ → ℕ → ℕ → ℕ → Type 0
+Preimage m set v w target s = In s set × In (m .step s v w) target
 
 -- the state after the hatchings ws, where it was s after v
 abbrev pub onward : Machine → ℕ → ℕ → List ℕ → ℕ

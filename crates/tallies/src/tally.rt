@@ -1,7 +1,12 @@
 // What every tally is.
 ghost use mathlib.Core.Path.{_≡_};
 ghost use Prim.Native.Nat.{ℕ, _<_, _≤_};
-ghost use Rattle.tallies.specs.Machines.{Machine, Zero-outside};
+ghost use Rattle.words.specs.Sets.{Holds};
+ghost use Rattle.tallies.specs.Machines.{Image, Machine, Preimage, Zero-outside};
+use words::AscendingIterator;
+use words::Set64;
+use words::WordSet;
+use words::members;
 
 // A number of states: from 1 to 64.
 #[derive(Clone, Copy)]
@@ -57,4 +62,29 @@ pub trait Tally {
     // The number that the last state s comes to.
     fn result(&self, s: u32) -> u32
         ensures { λ r. ⌜ r ≡ machine (now (self .entry)) .result s ⌝ };
+
+    // The states that the step from v to w gives from those of the set.
+    // A tally that can move a whole set at once writes its own.
+    fn image(&self, set: u64, v: u32, w: u32) -> u64
+        ensures { λ r. ⌜ Holds r (Image (machine (now (self .entry))) set v w) ⌝ }
+    {
+        let mut states = 0u64;
+        for s in members(set) {
+            states = states.with(self.step(s, v, w));
+        }
+        states
+    }
+
+    // The states of the set that the step from v to w takes into the target.
+    fn preimage(&self, set: u64, v: u32, w: u32, target: u64) -> u64
+        ensures { λ r. ⌜ Holds r (Preimage (machine (now (self .entry))) set v w target) ⌝ }
+    {
+        let mut states = 0u64;
+        for s in members(set) {
+            if target.contains(self.step(s, v, w)) {
+                states = states.with(s);
+            }
+        }
+        states
+    }
 }

@@ -1,3 +1,4 @@
 pub mod Bits
-pub mod Members
+pub mod Membership
 pub mod Sizes
+pub mod Walking

@@ -25,3 +25,8 @@ size (suc n) w = bit w n + size n w
 abbrev pub Lowest : (ℕ → Type 0) → ℕ → Option ℕ → Type 0
 Lowest P from (Some k) = (from ≤ k) × P k × ((j : ℕ) → from ≤ j → j < k → P j → ⊥)
 Lowest P from None = (k : ℕ) → from ≤ k → P k → ⊥
+
+-- the lowest number of the set w, of n bits, is taken out of it, or there is none
+abbrev pub Takes : ℕ → ℕ → Option ℕ → ℕ → Type 0
+Takes n w (Some k) rest = (k < n) × In k w × ((j : ℕ) → j < k → In j w → ⊥) × Holds rest (λ j. In j w × (j ≡ k → ⊥))
+Takes n w None rest = (k : ℕ) → In k w → ⊥

@@ -4,13 +4,18 @@ ghost use mathlib.Core.Path.{_≡_};
 ghost use mathlib.Core.Bool.{true};
 ghost use mathlib.Core.Logic.{_⊎_};
 ghost use Prim.Native.Nat.{ℕ, _<_};
+ghost use Rattle.std.specs.Options.{Cases};
 ghost use Rattle.std.specs.Orderings.{Decides};
 ghost use Rattle.words.specs.Sets.{In, Holds, Lowest, size};
 
 pub mod narrow;
+pub mod walk;
 pub mod wide;
 
 pub use narrow::Set32;
+pub use walk::Ascending;
+pub use walk::AscendingIterator;
+pub use walk::members;
 pub use wide::Set64;
 
 pub trait WordSet: Copy {
@@ -45,11 +50,16 @@ pub trait WordSet: Copy {
     fn union(self, other: Self) -> Self
         ensures { λ r. ⌜ Holds (word r) (λ k. In k (word self) ⊎ In k (word other)) ⌝ };
 
+    // What is in both sets.
+    fn intersection(self, other: Self) -> Self
+        ensures { λ r. ⌜ Holds (word r) (λ k. In k (word self) × In k (word other)) ⌝ };
+
     // How many numbers are in the set.
     fn count(self) -> u32
         ensures { λ r. ⌜ r ≡ size width (word self) ⌝ };
 
     // The lowest number in the set at or above `from`.
     fn lowest_from(self, from: u32) -> Option<u32>
-        ensures { λ r. ⌜ Lowest (λ k. In k (word self)) from r ⌝ };
+        ensures lowest { λ r. ⌜ Lowest (λ k. In k (word self)) from r ⌝ }
+        ensures inside { λ r. ⌜ Cases r (Unit {0}) (λ k. k < width) ⌝ };
 }

@@ -30,6 +30,10 @@ pub impl WordSet for u32 as Set32 {
         self | other
     }
 
+    fn intersection(self, other: u32) -> u32 {
+        self & other
+    }
+
     fn count(self) -> u32 {
         self.count_ones()
     }

@@ -30,6 +30,10 @@ pub impl WordSet for u64 as Set64 {
         self | other
     }
 
+    fn intersection(self, other: u64) -> u64 {
+        self & other
+    }
+
     fn count(self) -> u32 {
         self.count_ones()
     }

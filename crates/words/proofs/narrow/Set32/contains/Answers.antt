@@ -1,5 +1,5 @@
 use borrow.Author.Needs.{needs}
-use Rattle.words.proofs.Members.{decides-member, decides-past}
+use Rattle.words.proofs.Membership.{decides-member, decides-past}
 use Rattle.words.proofs.narrow.Set32.contains.Needs as need
 use Rattle.std.proofs.shelf.Tests.{ltb-true}
 

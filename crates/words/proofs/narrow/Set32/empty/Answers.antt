@@ -1,5 +1,5 @@
 use borrow.Author.Needs.{needs}
-use Rattle.words.proofs.Members.{holds-zero}
+use Rattle.words.proofs.Membership.{holds-zero}
 use Rattle.words.proofs.narrow.Set32.empty.Needs as need
 
 pub returns : need.returns

@@ -1,5 +1,5 @@
 use borrow.Author.Needs.{needs}
-use Rattle.words.proofs.Members.{holds-with, holds-with-past}
+use Rattle.words.proofs.Membership.{holds-with, holds-with-past}
 use Rattle.words.proofs.narrow.Set32.with.Needs as need
 
 pub returns-then-k-lt32 : need.returns-then-k-lt32

@@ -1,5 +1,5 @@
 use borrow.Author.Needs.{needs}
-use Rattle.words.proofs.Members.{holds-union}
+use Rattle.words.proofs.Membership.{holds-union}
 use Rattle.words.proofs.wide.Set64.union.Needs as need
 
 pub returns : need.returns

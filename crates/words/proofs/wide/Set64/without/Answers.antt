@@ -1,5 +1,5 @@
 use borrow.Author.Needs.{needs}
-use Rattle.words.proofs.Members.{holds-without, holds-without-past}
+use Rattle.words.proofs.Membership.{holds-without, holds-without-past}
 use Rattle.words.proofs.wide.Set64.without.Needs as need
 
 pub returns-then-k-lt64 : need.returns-then-k-lt64

@@ -4,6 +4,7 @@ use mathlib.Core.Logic.{_⊎_, inl, inr}
 use Prim.Native.Nat.{ℕ, zero, suc, _+_, _-_, _*_, _/_, _%_, _^_, _≤_, _<_, min, max}
 use native.Mathlib.Nat.{pow-suc}
 use native.Mathlib.Omega.{arith}
+use lib.Arith.{bin-ind}
 use lib.Bits.{bitAnd, bitOr}
 use lib.Count.{trailingZeros, under}
 use lib.Dec.{eqb, ltb}
@@ -107,6 +108,13 @@ lowest-in (suc n) w pos lt = go (w % 2) refl (λ p. lowest-in n (w / 2) p (omega
         below none (suc j) l i = none j (omega arith) (bit-half w j ∙ i)
     go (suc d) e above = (omega (arith, bit-low w), λ j l i. omega arith)
 
+-- a set of which it is not so that nothing is in it has a member
+pub some-in : (n w : ℕ) → w < 2 ^ n → (((k : ℕ) → In k w → ⊥) → ⊥) → (k : ℕ) × In k w
+some-in n w fits not-none = elim (cases-eq w 0) [
+  | inl e ↦ absurd (not-none (decides-zero w .0 (eq-eqb w 0 e)))
+  | inr ne ↦ (trailingZeros n w, lowest-in n w (omega arith) fits .0)
+]
+
 -- the lowest member of `w >> from`, as one of w
 pub lowest-above : (n w from : ℕ) → w < 2 ^ n → (w / 2 ^ from ≡ 0 → ⊥)
     → (from ≤ from + trailingZeros n (w / 2 ^ from))
@@ -122,6 +130,9 @@ lowest-above n w from fits some = (omega arith, sym (bit-shr w from (trailingZer
         let e : from + (j - from) ≡ j = omega arith in
         low .1 (j - from) (omega arith) (bit-shr w from (j - from) ∙ ap (bit w) e ∙ i)
 
+pub lowest-inside : (n w from : ℕ) → w < 2 ^ n → (w / 2 ^ from ≡ 0 → ⊥) → from + trailingZeros n (w / 2 ^ from) < n
+lowest-inside n w from fits some = in-below n w (from + trailingZeros n (w / 2 ^ from)) fits (lowest-above n w from fits some .1)
+
 -- nothing is left of `w >> from`
 pub none-above : (w from : ℕ) → w / 2 ^ from ≡ 0 → (k : ℕ) → from ≤ k → In k w → ⊥
 none-above w from e k l i =
@@ -131,3 +142,33 @@ none-above w from e k l i =
 
 pub none-past : (n w from : ℕ) → w < 2 ^ n → n ≤ from → (k : ℕ) → from ≤ k → In k w → ⊥
 none-past n w from fits past k l i = omega (arith, in-below n w k fits i)
+
+pub holds-intersection : (a b : ℕ) → Holds (bitAnd a b) (λ k. In k a × In k b)
+holds-intersection a b k = (
+  λ i. (omega (arith, bit-and a b k, bit-lt a k, bit-lt b k), omega (arith, bit-and a b k, bit-lt a k, bit-lt b k)),
+  λ t. omega (arith, bit-and a b k, t .0, t .1),
+)
+
+-- a set within another is no greater as a number
+within-le : (b a : ℕ) → ((k : ℕ) → In k a → In k b) → a ≤ b
+within-le = bin-ind (λ (b : ℕ). (a : ℕ) → ((k : ℕ) → In k a → In k b) → a ≤ b)
+    (λ a within. omega (arith, no-bits a (λ k. none a k (within k))))
+    (λ b ih a within.
+    let half : a / 2 ≤ b / 2 = ih (a / 2) (λ k i. bit-half b k ∙ within (suc k) (sym (bit-half a k) ∙ i)) in
+    elim (cases-eq (bit a 0) 1) [
+      | inl i ↦ omega (arith, half, bit-low a, bit-low b, within 0 i)
+      | inr ne ↦ omega (arith, half, bit-low a, bit-low b, bit-lt a 0)
+    ])
+  where
+    none : (a k : ℕ) → (In k a → In k 0) → bit a k ≡ 0
+    none a k f = elim (cases-eq (bit a k) 1) [
+      | inl i ↦ absurd (omega (arith, f i, bit-zero k))
+      | inr ne ↦ omega (arith, bit-lt a k)
+    ]
+
+-- without one of its numbers, a set is less as a number
+pub less-without : (w r k : ℕ) → In k w → Holds r (λ j. In j w × (j ≡ k → ⊥)) → r < w
+less-without w r k member h = elim (cases-eq r w) [
+  | inl same ↦ absurd (h k .0 (ap (λ (x : ℕ). bit x k) same ∙ member) .1 refl)
+  | inr other ↦ omega (arith, within-le w r (λ j i. h j .0 i .0))
+]

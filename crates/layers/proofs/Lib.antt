@@ -1,0 +1,5 @@
+pub mod Passing
+pub mod Rows
+pub mod Storing
+pub mod Telling
+pub mod Walks

@@ -1,0 +1,4 @@
+pub mod Answers
+pub mod Layers
+pub mod Passes
+pub mod Rows
