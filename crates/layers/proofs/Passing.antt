@@ -8,10 +8,11 @@ use native.Mathlib.Omega.{arith}
 use lib.ListN.{length, getD}
 use Rattle.std.proofs.shelf.Lists.{getD-past}
 use Rattle.std.proofs.shelf.Tests.{cases-lt}
-use Rattle.words.specs.Sets.{In, Holds}
+use Rattle.words.specs.Sets.{In, Holds, Holds-each}
 use Rattle.words.proofs.Bits.{in-below}
 use Rattle.words.proofs.Membership.{holds-zero}
-use Rattle.layers.specs.Layers.{Arrives, Departs, In-use, Layer, Pair-in-use, Stored}
+use Rattle.neighbours.specs.Pairs.{In-use, Pair-in-use}
+use Rattle.layers.specs.Layers.{Arrives, Departs, Stored}
 use Rattle.layers.specs.Passes.{Reachable, Completable, Through}
 use Rattle.layers.specs.Rows.{Model}
 
@@ -35,10 +36,10 @@ module _ (m : Model) (ps : List ℕ) where
   pair-of i v w inside a b pair = ((i, (omega arith, a)), ((suc i, (inside, b)), pair))
 
   -- one layer forward
-  reach-step : (i : ℕ) (layer next before : List ℕ) → suc i < length ps → Layer before (λ w v. Pair-in-use (m .pairs) ps v w)
-      → Layer layer (Reachable m ps i)
-      → Layer next (λ w s. In w (getD ps (suc i) 0) × Arrives (m .machine) layer (λ v. In v (getD before w 0) × In v (getD ps i 0)) w s)
-      → Layer next (Reachable m ps (suc i))
+  reach-step : (i : ℕ) (layer next before : List ℕ) → suc i < length ps → Holds-each before (λ w v. Pair-in-use (m .pairs) ps v w)
+      → Holds-each layer (Reachable m ps i)
+      → Holds-each next (λ w s. In w (getD ps (suc i) 0) × Arrives (m .machine) layer (λ v. In v (getD before w 0) × In v (getD ps i 0)) w s)
+      → Holds-each next (Reachable m ps (suc i))
   reach-step i layer next before inside table reached made w s = (λ member. into (made w s .0 member), λ t. made w s .1 (out t))
     where
       into : In w (getD ps (suc i) 0) × Arrives (m .machine) layer (λ v. In v (getD before w 0) × In v (getD ps i 0)) w s → Reachable m ps (suc i) w s
@@ -50,12 +51,12 @@ module _ (m : Model) (ps : List ℕ) where
           (chosen, (v, ((table w v .1 (pair-of i v w inside here chosen pair), here), (p, (reached v p .1 reach, step)))))
 
   -- the same, where the next part is called k
-  pub reach-more : (i k : ℕ) (layer next before : List ℕ) → suc i ≡ k → k < length ps → Layer before (λ w v. Pair-in-use (m .pairs) ps v w)
-      → Layer layer (Reachable m ps i)
-      → Layer next (λ w s. In w (getD ps k 0) × Arrives (m .machine) layer (λ v. In v (getD before w 0) × In v (getD ps i 0)) w s)
-      → Layer next (Reachable m ps k)
+  pub reach-more : (i k : ℕ) (layer next before : List ℕ) → suc i ≡ k → k < length ps → Holds-each before (λ w v. Pair-in-use (m .pairs) ps v w)
+      → Holds-each layer (Reachable m ps i)
+      → Holds-each next (λ w s. In w (getD ps k 0) × Arrives (m .machine) layer (λ v. In v (getD before w 0) × In v (getD ps i 0)) w s)
+      → Holds-each next (Reachable m ps k)
   reach-more i k layer next before e inside table reached =
-      subst (λ (q : ℕ). Layer next (λ w s. In w (getD ps q 0) × Arrives (m .machine) layer (λ v. In v (getD before w 0) × In v (getD ps i 0)) w s) → Layer next (Reachable m ps q))
+      subst (λ (q : ℕ). Holds-each next (λ w s. In w (getD ps q 0) × Arrives (m .machine) layer (λ v. In v (getD before w 0) × In v (getD ps i 0)) w s) → Holds-each next (Reachable m ps q))
       e (reach-step i layer next before (omega arith) table reached)
 
   module _ (allowed : ℕ) where
@@ -64,20 +65,20 @@ module _ (m : Model) (ps : List ℕ) where
     through-small small d i v s t = reachable-small small i v s (t .0)
 
     -- the last layer
-    pub through-last : (i n ending : ℕ) (layer kept : List ℕ) → Layer layer (Reachable m ps i) → ((v s : ℕ) → Reachable m ps i v s → s < n)
+    pub through-last : (i n ending : ℕ) (layer kept : List ℕ) → Holds-each layer (Reachable m ps i) → ((v s : ℕ) → Reachable m ps i v s → s < n)
         → Holds ending (λ s. (s < n) × In (m .machine .result s) allowed)
-        → Layer kept (λ v s. In v (getD ps i 0) × (In s (getD layer v 0) × In s ending))
-        → Layer kept (Through m ps allowed 0 i)
+        → Holds-each kept (λ v s. In v (getD ps i 0) × (In s (getD layer v 0) × In s ending))
+        → Holds-each kept (Through m ps allowed 0 i)
     through-last i n ending layer kept reached small ends made v s = (
       λ member. let t = made v s .0 member in (reached v s .0 (t .1 .0), ends s .0 (t .1 .1) .1),
       λ t. made v s .1 (reachable-chosen i v s (t .0), (reached v s .1 (t .0), ends s .1 (small v s (t .0), t .1))),
     )
 
     -- one layer backward
-    through-step : (i d : ℕ) (layer live kept after : List ℕ) → suc i < length ps → Layer after (Pair-in-use (m .pairs) ps)
-        → Layer layer (Reachable m ps i) → Layer live (Through m ps allowed d (suc i))
-        → Layer kept (λ v s. In v (getD ps i 0) × Departs (m .machine) (getD layer v 0) live (λ w. In w (getD after v 0) × In w (getD ps (suc i) 0)) v s)
-        → Layer kept (Through m ps allowed (suc d) i)
+    through-step : (i d : ℕ) (layer live kept after : List ℕ) → suc i < length ps → Holds-each after (Pair-in-use (m .pairs) ps)
+        → Holds-each layer (Reachable m ps i) → Holds-each live (Through m ps allowed d (suc i))
+        → Holds-each kept (λ v s. In v (getD ps i 0) × Departs (m .machine) (getD layer v 0) live (λ w. In w (getD after v 0) × In w (getD ps (suc i) 0)) v s)
+        → Holds-each kept (Through m ps allowed (suc d) i)
     through-step i d layer live kept after inside table reached lives made v s = (λ member. into (made v s .0 member), λ t. made v s .1 (out t))
       where
         into : In v (getD ps i 0) × Departs (m .machine) (getD layer v 0) live (λ w. In w (getD after v 0) × In w (getD ps (suc i) 0)) v s
@@ -100,25 +101,25 @@ module _ (m : Model) (ps : List ℕ) where
             )
 
     -- the same, where the next part is called k, and e parts are left after part i
-    pub through-more : (i k d e : ℕ) (layer live kept after : List ℕ) → suc i ≡ k → suc d ≡ e → k < length ps → Layer after (Pair-in-use (m .pairs) ps)
-        → Layer layer (Reachable m ps i) → Layer live (Through m ps allowed d k)
-        → Layer kept (λ v s. In v (getD ps i 0) × Departs (m .machine) (getD layer v 0) live (λ w. In w (getD after v 0) × In w (getD ps k 0)) v s)
-        → Layer kept (Through m ps allowed e i)
+    pub through-more : (i k d e : ℕ) (layer live kept after : List ℕ) → suc i ≡ k → suc d ≡ e → k < length ps → Holds-each after (Pair-in-use (m .pairs) ps)
+        → Holds-each layer (Reachable m ps i) → Holds-each live (Through m ps allowed d k)
+        → Holds-each kept (λ v s. In v (getD ps i 0) × Departs (m .machine) (getD layer v 0) live (λ w. In w (getD after v 0) × In w (getD ps k 0)) v s)
+        → Holds-each kept (Through m ps allowed e i)
     through-more i k d e layer live kept after next more inside table reached =
-        subst (λ (r : ℕ). Layer live (Through m ps allowed d k)
-        → Layer kept (λ v s. In v (getD ps i 0) × Departs (m .machine) (getD layer v 0) live (λ w. In w (getD after v 0) × In w (getD ps k 0)) v s)
-        → Layer kept (Through m ps allowed r i))
+        subst (λ (r : ℕ). Holds-each live (Through m ps allowed d k)
+        → Holds-each kept (λ v s. In v (getD ps i 0) × Departs (m .machine) (getD layer v 0) live (λ w. In w (getD after v 0) × In w (getD ps k 0)) v s)
+        → Holds-each kept (Through m ps allowed r i))
         more
-        (subst (λ (q : ℕ). Layer live (Through m ps allowed d q)
-        → Layer kept (λ v s. In v (getD ps i 0) × Departs (m .machine) (getD layer v 0) live (λ w. In w (getD after v 0) × In w (getD ps q 0)) v s)
-        → Layer kept (Through m ps allowed (suc d) i))
+        (subst (λ (q : ℕ). Holds-each live (Through m ps allowed d q)
+        → Holds-each kept (λ v s. In v (getD ps i 0) × Departs (m .machine) (getD layer v 0) live (λ w. In w (getD after v 0) × In w (getD ps q 0)) v s)
+        → Holds-each kept (Through m ps allowed (suc d) i))
         next (through-step i d layer live kept after (omega arith) table reached))
 
 -- ---- the words of a part as a layer of their own, and back
 
 -- a layer that was loaded holds what the words of its part hold
 pub loaded : (words layer : List ℕ) (i : ℕ) (P : ℕ → ℕ → Type 0) → length layer ≡ 32 → ((v : ℕ) → v < 32 → getD layer v 0 ≡ getD words (32 * i + v) 0)
-    → ((v s : ℕ) → P v s → v < 32) → Stored words i P → Layer layer P
+    → ((v s : ℕ) → P v s → v < 32) → Stored words i P → Holds-each layer P
 loaded words layer i P size same small h v = elim (cases-lt v 32) [
   | inl inside ↦ subst (λ (w : ℕ). Holds w (P v)) (sym (same v inside)) (h v inside)
   | inr past ↦ subst (λ (w : ℕ). Holds w (P v)) (sym (getD-past layer v 0 (omega arith)))
@@ -127,7 +128,7 @@ loaded words layer i P size same small h v = elim (cases-lt v 32) [
 
 -- and the words of a part hold what the layer that was stored there holds
 pub stored : (words layer : List ℕ) (i : ℕ) (P : ℕ → ℕ → Type 0) → ((v : ℕ) → v < 32 → getD words (32 * i + v) 0 ≡ getD layer v 0)
-    → Layer layer P → Stored words i P
+    → Holds-each layer P → Stored words i P
 stored words layer i P same h v inside = subst (λ (w : ℕ). Holds w (P v)) (sym (same v inside)) (h v)
 
 -- the words of another part hold what they held

@@ -1,4 +1,4 @@
-pub mod Answers
 pub mod Layers
 pub mod Passes
 pub mod Rows
+pub mod Scratch

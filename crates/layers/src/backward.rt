@@ -4,11 +4,12 @@ ghost use mathlib.Core.Path.{_≡_};
 ghost use mathlib.Core.Bool.{Bool};
 ghost use Prim.Native.Nat.{ℕ, suc, _-_, _*_, _<_, _≤_};
 ghost use lib.ListN.{length, getD};
-ghost use Rattle.words.specs.Sets.{In, Holds};
-ghost use Rattle.layers.specs.Layers.{Departs, Layer, Pair-in-use, Stored};
+ghost use Rattle.words.specs.Sets.{In, Holds, Holds-each};
+ghost use Rattle.neighbours.specs.Pairs.{Pair-in-use};
+ghost use Rattle.layers.specs.Layers.{Departs, Stored};
 ghost use Rattle.layers.specs.Passes.{Reachable, Through};
 ghost use Rattle.layers.specs.Rows.{model};
-use crate::neighbours::Neighbours;
+use neighbours::Neighbours;
 use crate::store::load;
 use crate::store::store;
 use tallies::Tally;
@@ -38,7 +39,7 @@ fn retain<T: Tally>(
     live: [u64; 32],
     next: u32,
 ) -> [u64; 32]
-    ensures { λ r. ⌜ Layer r (λ v s. In v palette × Departs (machine (now (tally .entry))) (getD layer v 0) live (λ w. In w (getD (now (neighbours .entry) .after) v 0) × In w next) v s) ⌝ }
+    ensures { λ r. ⌜ Holds-each r (λ v s. In v palette × Departs (machine (now (tally .entry))) (getD layer v 0) live (λ w. In w (getD (now (neighbours .entry) .after) v 0) × In w next) v s) ⌝ }
 {
     let mut retained = [0; 32];
     for v in members(palette) {
@@ -63,7 +64,7 @@ fn ending_states<T: Tally>(tally: &T, allowed: u64) -> u64
 
 // The layer of the last part: of its states, those that the row may end in.
 fn last_layer(layer: [u64; 32], palette: u32, ending: u64) -> [u64; 32]
-    ensures { λ r. ⌜ Layer r (λ v s. In v palette × (In s (getD layer v 0) × In s ending)) ⌝ }
+    ensures { λ r. ⌜ Holds-each r (λ v s. In v palette × (In s (getD layer v 0) × In s ending)) ⌝ }
 {
     let mut retained = [0; 32];
     for v in members(palette) {
@@ -81,7 +82,7 @@ pub(crate) fn backward<T: Tally>(
     scratch: &mut [u64],
 )
     requires { ⌜ 32 * length (now palettes) ≤ length (now scratch) ⌝ }
-    ensures through { λ _. ⌜ ((p : ℕ → ℕ → Bool) → Layer (now (neighbours .entry) .after) (Pair-in-use p (now (palettes .entry))) → ((i : ℕ) → i < length (now (palettes .entry)) → Stored (now (scratch .entry)) i (Reachable (model p (machine (now (tally .entry)))) (now (palettes .entry)) i)) → (i : ℕ) → i < length (now (palettes .entry)) → Stored (now (scratch .exit)) i (Through (model p (machine (now (tally .entry)))) (now (palettes .entry)) allowed (length (now (palettes .entry)) - suc i) i)) ⌝ }
+    ensures through { λ _. ⌜ ((p : ℕ → ℕ → Bool) → Holds-each (now (neighbours .entry) .after) (Pair-in-use p (now (palettes .entry))) → ((i : ℕ) → i < length (now (palettes .entry)) → Stored (now (scratch .entry)) i (Reachable (model p (machine (now (tally .entry)))) (now (palettes .entry)) i)) → (i : ℕ) → i < length (now (palettes .entry)) → Stored (now (scratch .exit)) i (Through (model p (machine (now (tally .entry)))) (now (palettes .entry)) allowed (length (now (palettes .entry)) - suc i) i)) ⌝ }
     ensures rest { λ _. ⌜ ((k : ℕ) → 32 * length (now (palettes .entry)) ≤ k → getD (now (scratch .exit)) k 0 ≡ getD (now (scratch .entry)) k 0) ⌝ }
 {
     let [.., palette] = palettes else {

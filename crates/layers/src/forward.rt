@@ -4,11 +4,12 @@ ghost use mathlib.Core.Path.{_≡_};
 ghost use mathlib.Core.Bool.{Bool};
 ghost use Prim.Native.Nat.{ℕ, _*_, _<_, _≤_};
 ghost use lib.ListN.{length, getD};
-ghost use Rattle.words.specs.Sets.{In, Holds};
-ghost use Rattle.layers.specs.Layers.{Arrives, Layer, Pair-in-use, Stored};
+ghost use Rattle.words.specs.Sets.{In, Holds, Holds-each};
+ghost use Rattle.neighbours.specs.Pairs.{Pair-in-use};
+ghost use Rattle.layers.specs.Layers.{Arrives, Stored};
 ghost use Rattle.layers.specs.Passes.{Reachable};
 ghost use Rattle.layers.specs.Rows.{model};
-use crate::neighbours::Neighbours;
+use neighbours::Neighbours;
 use crate::store::load;
 use crate::store::store;
 use tallies::Tally;
@@ -37,7 +38,7 @@ fn advance<T: Tally>(
     palette: u32,
     next: u32,
 ) -> [u64; 32]
-    ensures { λ r. ⌜ Layer r (λ w s. In w next × Arrives (machine (now (tally .entry))) layer (λ v. In v (getD (now (neighbours .entry) .before) w 0) × In v palette) w s) ⌝ }
+    ensures { λ r. ⌜ Holds-each r (λ w s. In w next × Arrives (machine (now (tally .entry))) layer (λ v. In v (getD (now (neighbours .entry) .before) w 0) × In v palette) w s) ⌝ }
 {
     let mut after = [0; 32];
     for w in members(next) {
@@ -49,7 +50,7 @@ fn advance<T: Tally>(
 
 // The layer of the first part.
 fn first_layer<T: Tally>(tally: &T, palette: u32) -> [u64; 32]
-    ensures { λ r. ⌜ Layer r (λ v s. In v palette × (machine (now (tally .entry)) .start v ≡ s)) ⌝ }
+    ensures { λ r. ⌜ Holds-each r (λ v s. In v palette × (machine (now (tally .entry)) .start v ≡ s)) ⌝ }
 {
     let mut layer = [0; 32];
     for v in members(palette) {
@@ -66,7 +67,7 @@ pub(crate) fn forward<T: Tally>(
     scratch: &mut [u64],
 )
     requires room { ⌜ 32 * length (now palettes) ≤ length (now scratch) ⌝ }
-    ensures reached { λ _. ⌜ ((p : ℕ → ℕ → Bool) → Layer (now (neighbours .entry) .before) (λ w v. Pair-in-use p (now (palettes .entry)) v w) → (i : ℕ) → i < length (now (palettes .entry)) → Stored (now (scratch .exit)) i (Reachable (model p (machine (now (tally .entry)))) (now (palettes .entry)) i)) ⌝ }
+    ensures reached { λ _. ⌜ ((p : ℕ → ℕ → Bool) → Holds-each (now (neighbours .entry) .before) (λ w v. Pair-in-use p (now (palettes .entry)) v w) → (i : ℕ) → i < length (now (palettes .entry)) → Stored (now (scratch .exit)) i (Reachable (model p (machine (now (tally .entry)))) (now (palettes .entry)) i)) ⌝ }
     ensures rest { λ _. ⌜ ((k : ℕ) → 32 * length (now (palettes .entry)) ≤ k → getD (now (scratch .exit)) k 0 ≡ getD (now (scratch .entry)) k 0) ⌝ }
 {
     let [first, ..] = palettes else {

@@ -4,17 +4,17 @@ ghost use Prim.Native.Nat.{_*_, _<_, _≤_};
 ghost use lib.ListN.{length};
 ghost use Rattle.std.specs.Results.{Cases};
 ghost use Rattle.layers.specs.declared.shortage.Shortage.the-variants.{Scratch};
-ghost use Rattle.layers.specs.Answers.{Lives, Same-from};
+ghost use Rattle.layers.specs.Scratch.{Lives, Same-from};
 ghost use Rattle.layers.specs.Rows.{model};
 use crate::backward::backward;
 use crate::forward::forward;
-use crate::neighbours::neighbours_of;
+use neighbours::neighbours_of;
 use crate::shortage::Shortage;
 use rules::NeighbourRule;
 use tallies::Tally;
 
 // Whether the scratch has 32 words for each part.
-pub(crate) fn check_scratch(palettes: &[u32], scratch: &[u64]) -> Result<(), Shortage>
+pub fn check_scratch(palettes: &[u32], scratch: &[u64]) -> Result<(), Shortage>
     ensures { λ r. ⌜ Cases r (λ _. 32 * length (now (palettes .entry)) ≤ length (now (scratch .entry))) (λ e. (e ≡ Scratch) × (length (now (scratch .entry)) < 32 * length (now (palettes .entry)))) ⌝ }
 {
     if scratch.len() / 32 < palettes.len() {
@@ -24,7 +24,7 @@ pub(crate) fn check_scratch(palettes: &[u32], scratch: &[u64]) -> Result<(), Sho
 }
 
 // The two passes.
-pub(crate) fn pass<R: NeighbourRule, T: Tally>(
+fn pass<R: NeighbourRule, T: Tally>(
     rule: &R,
     tally: &T,
     palettes: &[u32],

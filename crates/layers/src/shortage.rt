@@ -1,6 +1,6 @@
 // What can be too short of what is lent.
 ghost use mathlib.Core.Path.{_≡_};
-ghost use Rattle.layers.specs.Answers.{shortage-number};
+ghost use Rattle.layers.specs.Scratch.{shortage-number};
 
 #[derive(Clone, Copy, PartialEq, Eq, Debug)]
 pub enum Shortage {

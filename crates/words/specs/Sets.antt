@@ -1,6 +1,8 @@
 -- A word as a set of small numbers: k is in it where bit k is one. Assumes nothing.
 use mathlib.Core.Path.{_≡_}
+use mathlib.Core.List.{List}
 use Prim.Native.Nat.{ℕ, zero, suc, _+_, _/_, _%_, _^_, _<_, _≤_}
+use lib.ListN.{getD}
 use Rattle.std.specs.declared.option.Option.{Option}
 use Rattle.std.specs.declared.option.Option.the-variants.{Some, None}
 
@@ -15,6 +17,10 @@ In k w = bit w k ≡ 1
 -- the set w holds exactly the numbers of which P is true
 abbrev pub Holds : ℕ → (ℕ → Type 0) → Type 0
 Holds w P = (k : ℕ) → (In k w → P k) × (P k → In k w)
+
+-- the same of a list of sets: set v holds exactly the numbers k of which P v k is true
+abbrev pub Holds-each : List ℕ → (ℕ → ℕ → Type 0) → Type 0
+Holds-each sets P = (v : ℕ) → Holds (getD sets v 0) (P v)
 
 -- how many numbers below n are in the set w
 unfoldable pub size : ℕ → ℕ → ℕ

@@ -5,7 +5,8 @@ use Prim.Native.Nat.{ℕ, suc, _+_, _-_, _^_, _<_}
 use native.Mathlib.Omega.{arith}
 use lib.ListN.{length, getD}
 use Rattle.std.proofs.shelf.Tests.{cases-eq}
-use Rattle.layers.specs.Layers.{Layer, Stored}
+use Rattle.words.specs.Sets.{Holds-each}
+use Rattle.layers.specs.Layers.{Stored}
 use Rattle.layers.specs.Passes.{Reachable, Through}
 use Rattle.layers.specs.Rows.{Model, model}
 use Rattle.layers.proofs.Passing.{loaded, stored, stored-other, through-last, through-more, reachable-small, reachable-few, through-small}

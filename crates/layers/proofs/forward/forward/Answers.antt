@@ -4,7 +4,8 @@ use mathlib.Core.Logic.{inl, inr}
 use Prim.Native.Nat.{ℕ, _-_}
 use native.Mathlib.Omega.{arith}
 use Rattle.std.proofs.shelf.Tests.{cases-eq}
-use Rattle.layers.specs.Layers.{Layer, Stored}
+use Rattle.words.specs.Sets.{Holds-each}
+use Rattle.layers.specs.Layers.{Stored}
 use Rattle.layers.specs.Passes.{Reachable}
 use Rattle.layers.specs.Rows.{Model, model}
 use Rattle.layers.proofs.Passing.{loaded, stored, stored-other, reach-more, reachable-small}
@@ -16,7 +17,7 @@ loop-i-holds g c = (
       let m : Model = model p (g .T·Tally .machine (c .args .tally .now)) in
       let ps = c .args .palettes .now in
       let first : j ≡ 0 = omega arith in
-      let made : Layer (c .first-layer .result) (Reachable m ps 0) = search needs in
+      let made : Holds-each (c .first-layer .result) (Reachable m ps 0) = search needs in
       subst (λ (q : ℕ). Stored (c .store .last .scratch) q (Reachable m ps q)) (sym first)
       (stored (c .store .last .scratch) (c .first-layer .result) 0 (Reachable m ps 0) (c .store .ensures .here) made),
   λ k h. refl,

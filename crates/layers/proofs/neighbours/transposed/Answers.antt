@@ -1,6 +1,0 @@
-use borrow.Author.Needs.{needs}
-use Rattle.words.proofs.Walking.{lay-none}
-use Rattle.layers.proofs.neighbours.transposed.Needs as need
-
-pub loop-w-holds : need.loop-w-holds
-loop-w-holds c = (search needs, lay-none _ (c .args .used) 32 (c .into-iter-w-iterator .result .rest) (search needs))

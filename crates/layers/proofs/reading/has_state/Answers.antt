@@ -1,6 +1,0 @@
-use borrow.Author.Needs.{needs}
-use Rattle.words.proofs.Membership.{some-in}
-use Rattle.layers.proofs.reading.has_state.Needs as need
-
-pub returns : need.returns
-returns c = search (needs, some-in 64)
