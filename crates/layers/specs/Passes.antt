@@ -1,11 +1,14 @@
 -- What the two passes find: the states in which a part can be reached, and those from which the row can be completed. Assumes nothing.
 use mathlib.Core.Path.{_≡_}
-use mathlib.Core.Bool.{true}
+use mathlib.Core.Bool.{Bool, true}
 use mathlib.Core.List.{List}
-use Prim.Native.Nat.{ℕ, zero, suc}
-use lib.ListN.{getD}
-use Rattle.words.specs.Sets.{In}
-use Rattle.layers.specs.Rows.{Model}
+use Prim.Native.Nat.{ℕ, zero, suc, _-_, _<_}
+use lib.ListN.{length, getD}
+use Rattle.words.specs.Sets.{In, Holds-each}
+use Rattle.tallies.specs.Machines.{Machine}
+use Rattle.neighbours.specs.Pairs.{Pair-in-use}
+use Rattle.layers.specs.Layers.{Stored}
+use Rattle.layers.specs.Rows.{Model, model}
 
 -- the parts up to i can be chosen so that v stands at i and the tally is s there
 abbrev pub Reachable : Model → List ℕ → ℕ → ℕ → ℕ → Type 0
@@ -23,3 +26,16 @@ Completable m palettes allowed (suc d) i v s =
 -- both
 abbrev pub Through : Model → List ℕ → ℕ → ℕ → ℕ → ℕ → ℕ → Type 0
 Through m palettes allowed d i v s = Reachable m palettes i v s × Completable m palettes allowed d i v s
+
+-- The words hold the reachable states of every part, for each set of pairs of which `before` is the table.
+abbrev pub Reaches : Machine → List ℕ → List ℕ → List ℕ → Type 0
+Reaches k before palettes words =
+    (p : ℕ → ℕ → Bool) → Holds-each before (λ w v. Pair-in-use p palettes v w)
+    → (i : ℕ) → i < length palettes → Stored words i (Reachable (model p k) palettes i)
+
+-- Where the words `old` hold the reachable states, the words `new` hold those that can be completed, for each set of pairs of which `after` is the table.
+abbrev pub Retains : Machine → List ℕ → List ℕ → ℕ → List ℕ → List ℕ → Type 0
+Retains k after palettes allowed old new =
+    (p : ℕ → ℕ → Bool) → Holds-each after (Pair-in-use p palettes)
+    → ((i : ℕ) → i < length palettes → Stored old i (Reachable (model p k) palettes i))
+    → (i : ℕ) → i < length palettes → Stored new i (Through (model p k) palettes allowed (length palettes - suc i) i)

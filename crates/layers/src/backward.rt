@@ -1,17 +1,14 @@
 // The backward pass: of the reachable states of each part, those from which the row can be completed.
 // Before part i, the words of the parts from i + 1 on hold their live states.
-ghost use mathlib.Core.Path.{_≡_};
-ghost use mathlib.Core.Bool.{Bool};
-ghost use Prim.Native.Nat.{ℕ, suc, _-_, _*_, _<_, _≤_};
+ghost use Prim.Native.Nat.{_*_, _<_, _≤_};
 ghost use lib.ListN.{length, getD};
 ghost use Rattle.words.specs.Sets.{In, Holds, Holds-each};
-ghost use Rattle.neighbours.specs.Pairs.{Pair-in-use};
-ghost use Rattle.layers.specs.Layers.{Departs, Stored};
-ghost use Rattle.layers.specs.Passes.{Reachable, Through};
-ghost use Rattle.layers.specs.Rows.{model};
-use neighbours::Neighbours;
+ghost use Rattle.layers.specs.Layers.{Departs};
+ghost use Rattle.layers.specs.Passes.{Retains};
+ghost use Rattle.layers.specs.Scratch.{Same-from};
 use crate::store::load;
 use crate::store::store;
+use neighbours::Neighbours;
 use tallies::Tally;
 use words::AscendingIterator;
 use words::Set32;
@@ -82,8 +79,8 @@ pub(crate) fn backward<T: Tally>(
     scratch: &mut [u64],
 )
     requires { ⌜ 32 * length (now palettes) ≤ length (now scratch) ⌝ }
-    ensures through { λ _. ⌜ ((p : ℕ → ℕ → Bool) → Holds-each (now (neighbours .entry) .after) (Pair-in-use p (now (palettes .entry))) → ((i : ℕ) → i < length (now (palettes .entry)) → Stored (now (scratch .entry)) i (Reachable (model p (machine (now (tally .entry)))) (now (palettes .entry)) i)) → (i : ℕ) → i < length (now (palettes .entry)) → Stored (now (scratch .exit)) i (Through (model p (machine (now (tally .entry)))) (now (palettes .entry)) allowed (length (now (palettes .entry)) - suc i) i)) ⌝ }
-    ensures rest { λ _. ⌜ ((k : ℕ) → 32 * length (now (palettes .entry)) ≤ k → getD (now (scratch .exit)) k 0 ≡ getD (now (scratch .entry)) k 0) ⌝ }
+    ensures through { λ _. ⌜ Retains (machine (now (tally .entry))) (now (neighbours .entry) .after) (now (palettes .entry)) allowed (now (scratch .entry)) (now (scratch .exit)) ⌝ }
+    ensures rest { λ _. ⌜ Same-from (32 * length (now (palettes .entry))) (now (scratch .exit)) (now (scratch .entry)) ⌝ }
 {
     let [.., palette] = palettes else {
         return;

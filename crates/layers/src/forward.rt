@@ -1,17 +1,15 @@
 // The forward pass: the states in which each part can be reached.
 // After part i, the words of the parts up to i hold their reachable states.
 ghost use mathlib.Core.Path.{_≡_};
-ghost use mathlib.Core.Bool.{Bool};
-ghost use Prim.Native.Nat.{ℕ, _*_, _<_, _≤_};
+ghost use Prim.Native.Nat.{_*_, _≤_};
 ghost use lib.ListN.{length, getD};
 ghost use Rattle.words.specs.Sets.{In, Holds, Holds-each};
-ghost use Rattle.neighbours.specs.Pairs.{Pair-in-use};
-ghost use Rattle.layers.specs.Layers.{Arrives, Stored};
-ghost use Rattle.layers.specs.Passes.{Reachable};
-ghost use Rattle.layers.specs.Rows.{model};
-use neighbours::Neighbours;
+ghost use Rattle.layers.specs.Layers.{Arrives};
+ghost use Rattle.layers.specs.Passes.{Reaches};
+ghost use Rattle.layers.specs.Scratch.{Same-from};
 use crate::store::load;
 use crate::store::store;
+use neighbours::Neighbours;
 use tallies::Tally;
 use words::AscendingIterator;
 use words::Set32;
@@ -67,8 +65,8 @@ pub(crate) fn forward<T: Tally>(
     scratch: &mut [u64],
 )
     requires room { ⌜ 32 * length (now palettes) ≤ length (now scratch) ⌝ }
-    ensures reached { λ _. ⌜ ((p : ℕ → ℕ → Bool) → Holds-each (now (neighbours .entry) .before) (λ w v. Pair-in-use p (now (palettes .entry)) v w) → (i : ℕ) → i < length (now (palettes .entry)) → Stored (now (scratch .exit)) i (Reachable (model p (machine (now (tally .entry)))) (now (palettes .entry)) i)) ⌝ }
-    ensures rest { λ _. ⌜ ((k : ℕ) → 32 * length (now (palettes .entry)) ≤ k → getD (now (scratch .exit)) k 0 ≡ getD (now (scratch .entry)) k 0) ⌝ }
+    ensures reached { λ _. ⌜ Reaches (machine (now (tally .entry))) (now (neighbours .entry) .before) (now (palettes .entry)) (now (scratch .exit)) ⌝ }
+    ensures rest { λ _. ⌜ Same-from (32 * length (now (palettes .entry))) (now (scratch .exit)) (now (scratch .entry)) ⌝ }
 {
     let [first, ..] = palettes else {
         return;

@@ -1,9 +1,8 @@
 // The engine: exactly the live states of a row, for every neighbour rule and every tally.
-pub mod live;
-pub mod shortage;
-
 mod backward;
 mod forward;
+pub mod live;
+pub mod shortage;
 mod store;
 
 pub use live::check_scratch;

@@ -8,8 +8,8 @@ ghost use Rattle.layers.specs.Scratch.{Lives, Same-from};
 ghost use Rattle.layers.specs.Rows.{model};
 use crate::backward::backward;
 use crate::forward::forward;
-use neighbours::neighbours_of;
 use crate::shortage::Shortage;
+use neighbours::neighbours_of;
 use rules::NeighbourRule;
 use tallies::Tally;
 

@@ -71,7 +71,7 @@ returns g c = record {
       (reachable-small m ps small last) (reached last (omega arith)) in
       let live = through-last m ps allowed last (g .T·Tally .states) (c .ending-states-ending .result) (c .load .result) (c .last-layer .result) layer
       (reachable-few m ps (g .T·Tally .states) (g .T·Tally·met .starts t) (g .T·Tally·met .steps t) last) (c .ending-states-ending .ensures)
-      (c .last-layer .ensures) in
+      (search needs) in
       let none : 0 ≡ length ps - suc last = omega arith in
       let done = subst (λ (d : ℕ). Stored new last (Through m ps allowed d last)) none
       (stored new (c .last-layer .result) last (Through m ps allowed 0 last) (c .store .ensures .here) live) in

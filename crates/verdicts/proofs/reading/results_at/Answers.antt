@@ -30,8 +30,9 @@ returns g c =
     let k = g .T·Tally .machine (c .args .tally .now) in
     let all = gather-all _ (c .into-iter-s-iterator .result .rest) (c .loop-s .s-iterator .rest) (c .loop-s .results) (c .in-None .ensures tt .steps) (c .loop-s .inv) in
     let is : c .into-iter-s-iterator .result .rest ≡ c .states-at .result = search needs in
+    let states : Holds (c .states-at .result) (Part-has live (c .args .part)) = search needs in
     let results : Holds (c .loop-s .results) (λ r. (s : ℕ) × (Part-has live (c .args .part) s × (k .result s ≡ r))) = λ r. (
-      λ i. let t = all r .0 i in (t .0, (c .states-at .ensures (t .0) .0 (subst (In (t .0)) is (t .1 .0)), t .1 .1)),
-      λ t. all r .1 (t .0, (subst (In (t .0)) (sym is) (c .states-at .ensures (t .0) .1 (t .1 .0)), t .1 .1)),
+      λ i. let t = all r .0 i in (t .0, (states (t .0) .0 (subst (In (t .0)) is (t .1 .0)), t .1 .1)),
+      λ t. all r .1 (t .0, (subst (In (t .0)) (sym is) (states (t .0) .1 (t .1 .0)), t .1 .1)),
     ) in
     record { words = results; yields = λ p ps allowed small lives last. yields-of (model p k) ps allowed live small lives (c .args .part) (c .loop-s .results) last results }

@@ -28,7 +28,7 @@ loop-v-again c =
     let G : ℕ → Type 0 = λ all. Holds all (λ k. (k < v + 1) × P k) in
     elim (c .if-has-state .came) [
       | then-has-state w ↦ subst G (sym (w .used-is)) (sift-take P 32 v (c .loop-v .used) (w .with-used .result) (omega arith)
-          (c .has-state .ensures .0 (w .if-has-state .taken)) (w .with-used .ensures) (c .loop-v .inv))
+          (search needs) (w .with-used .ensures) (c .loop-v .inv))
       | else-has-state w ↦ subst G (sym (w .used-is)) (sift-skip P v (c .loop-v .used) (λ f. both-ways (c .has-state .result) (w .if-has-state .left) (c .has-state .ensures .1 f))
           (c .loop-v .inv))
     ]
