@@ -4,4 +4,6 @@ mod counts;
 #[cfg(test)]
 mod neighbours;
 #[cfg(test)]
+mod rows;
+#[cfg(test)]
 mod sets;
