@@ -2,6 +2,8 @@
 #[cfg(test)]
 mod counts;
 #[cfg(test)]
+mod moved;
+#[cfg(test)]
 mod neighbours;
 #[cfg(test)]
 mod rows;

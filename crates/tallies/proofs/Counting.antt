@@ -33,7 +33,7 @@ how-many-suc p n = refl
 
 module _ (C : ℕ → ℕ → Bool) where
   -- a step of the counter inside its range
-  stretch-step : (s v w : ℕ) → s < 64 → v < 32 → w < 32 → stretch-machine C .step s v w ≡ cond (C v w) s (min (s + 1) 63)
+  pub stretch-step : (s v w : ℕ) → s < 64 → v < 32 → w < 32 → stretch-machine C .step s v w ≡ cond (C v w) s (min (s + 1) 63)
   stretch-step s v w hs hv hw = rw (lt-ltb s 64 hs, lt-ltb v 32 hv, lt-ltb w 32 hw)
 
   module _ (xs : List ℕ) (row : Finished xs) where

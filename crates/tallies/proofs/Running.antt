@@ -117,7 +117,7 @@ module _ (xs : List ℕ) where
 -- ---- the counter
 
 -- a step of the counter inside its range
-plateau-step : (s v w : ℕ) → s < 64 → v < 32 → w < 32
+pub plateau-step : (s v w : ℕ) → s < 64 → v < 32 → w < 32
     → plateau-machine .step s v w ≡ runs (run-after (current-run s) v w) (max (longest-run s) (run-after (current-run s) v w))
 plateau-step s v w hs hv hw = rw (lt-ltb s 64 hs, lt-ltb v 32 hv, lt-ltb w 32 hw)
 

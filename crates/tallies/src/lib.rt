@@ -1,6 +1,7 @@
 // Tallies: what is counted along a row of hatchings.
 pub mod finished;
 pub mod outcome;
+mod outside;
 pub mod plateau;
 pub mod stretch;
 pub mod tally;

@@ -5,9 +5,15 @@ ghost use Rattle.tallies.specs.Stretches.{Stretches, stretch-machine};
 use crate::finished::RowFault;
 use crate::finished::check_finished;
 use crate::outcome::outcome_of;
+use crate::outside::image_outside;
+use crate::outside::preimage_outside;
 use crate::tally::StateCount;
 use crate::tally::Tally;
+use moves::one_up;
+use moves::one_up_into;
 use rules::NeighbourRule;
+use words::Set64;
+use words::WordSet;
 
 // Counts the stretches of a row: a new one begins where two neighbours are not a pair of the rule.
 #[derive(Clone, Copy)]
@@ -43,6 +49,26 @@ pub impl<C: NeighbourRule> Tally for StretchCounter<C> as StretchTally {
 
     fn result(&self, s: u32) -> u32 {
         if s < 64 { s } else { 0 }
+    }
+
+    fn image(&self, set: u64, v: u32, w: u32) -> u64 {
+        if v >= 32 || w >= 32 {
+            image_outside(set)
+        } else if self.rule.allows(v, w) {
+            set
+        } else {
+            one_up(set)
+        }
+    }
+
+    fn preimage(&self, set: u64, v: u32, w: u32, target: u64) -> u64 {
+        if v >= 32 || w >= 32 {
+            preimage_outside(set, target)
+        } else if self.rule.allows(v, w) {
+            set.intersection(target)
+        } else {
+            set.intersection(one_up_into(target))
+        }
     }
 }
 

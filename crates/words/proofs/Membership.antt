@@ -108,12 +108,12 @@ lowest-in (suc n) w pos lt = go (w % 2) refl (λ p. lowest-in n (w / 2) p (omega
         below none (suc j) l i = none j (omega arith) (bit-half w j ∙ i)
     go (suc d) e above = (omega (arith, bit-low w), λ j l i. omega arith)
 
--- a set of which it is not so that nothing is in it has a member
-pub some-in : (n w : ℕ) → w < 2 ^ n → (((k : ℕ) → In k w → ⊥) → ⊥) → (k : ℕ) × In k w
-some-in n w fits not-none = elim (cases-eq w 0) [
-  | inl e ↦ absurd (not-none (decides-zero w .0 (eq-eqb w 0 e)))
-  | inr ne ↦ (trailingZeros n w, lowest-in n w (omega arith) fits .0)
-]
+-- a set that is not empty has a member
+pub some-member : (n w : ℕ) → w < 2 ^ n → (((k : ℕ) → In k w → ⊥) → ⊥) → (k : ℕ) × In k w
+some-member n w fits some = (trailingZeros n w, lowest-in n w (omega (arith, not-zero)) fits .0)
+  where
+    not-zero : w ≡ 0 → ⊥
+    not-zero e = some (λ k i. holds-zero k .0 (subst (In k) e i))
 
 -- the lowest member of `w >> from`, as one of w
 pub lowest-above : (n w from : ℕ) → w < 2 ^ n → (w / 2 ^ from ≡ 0 → ⊥)

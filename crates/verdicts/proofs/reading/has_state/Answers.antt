@@ -1,6 +1,6 @@
 use borrow.Author.Needs.{needs}
-use Rattle.words.proofs.Membership.{some-in}
+use Rattle.words.proofs.Membership.{some-member}
 use Rattle.verdicts.proofs.reading.has_state.Needs as need
 
 pub returns : need.returns
-returns c = search (needs, some-in 64)
+returns c = search (needs, some-member 64)
