@@ -1,0 +1,3 @@
+pub mod Heights
+pub mod Tables
+pub mod Zeros

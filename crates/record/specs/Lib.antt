@@ -1,0 +1,5 @@
+pub mod Calls
+pub mod Copies
+pub mod Refusals
+pub mod Replies
+pub mod Stands
