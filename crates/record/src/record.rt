@@ -1,7 +1,7 @@
 // The record of a row. What its ghost fields say is true of every record, whatever calls are made on it.
 ghost use mathlib.Core.Path.{_≡_};
 ghost use Prim.Native.Nat.{ℕ, _<_, _≤_};
-ghost use lib.ListN.{getD};
+ghost use lib.ListN.{getD, length};
 ghost use Rattle.words.specs.Sets.{In};
 ghost use Rattle.record.specs.declared.stand.Stand.the-variants.{Blank};
 ghost use Rattle.record.specs.Copies.{copy-of};
@@ -21,6 +21,9 @@ pub struct Record {
     // how many marks are held: the first so many copies of the table
     pub marks: u32,
     pub undo: UndoTable,
+    // the arrays' lengths, for clauses
+    ghost places: { length palettes ≡ 60 },
+    ghost copies: { length (undo .saved) ≡ 8 },
     ghost parts: { n ≤ 60 },
     ghost hatchings: { d ≤ 32 },
     ghost held: { marks ≤ 8 },

@@ -8,7 +8,6 @@ use lib.ListN.{length, getD, take}
 use Rattle.std.specs.Orderings.{Decides}
 use Rattle.std.proofs.shelf.Lists.{take-all}
 use Rattle.words.specs.Sets.{In, Holds}
-use Rattle.words.proofs.Bits.{in-below}
 use Rattle.words.proofs.Walking.{holds-like}
 use Rattle.tallies.specs.Machines.{outcome, state}
 use Rattle.layers.specs.Scratch.{Lives}
@@ -24,7 +23,7 @@ module _ (m : Model) (ps : List ℕ) (allowed : ℕ) (words : List ℕ) (small :
   word-live i v s inside (xs, (whole, at, tally)) = (below, (omega (arith, lives .room), lives .live i inside v below s .1 (xs, (whole, at, tally))))
     where
       below : v < 32
-      below = in-below 32 (getD ps i 0) v (small i) (subst (λ (x : ℕ). In x (getD ps i 0)) at (whole .chosen i (omega (arith, whole .parts))))
+      below = small i v (subst (λ (x : ℕ). In x (getD ps i 0)) at (whole .chosen i (omega (arith, whole .parts))))
 
   pub uses-of : (i r : ℕ) → i < length ps → Holds r (λ v. (s : ℕ) × Word-has words i v s) → Holds r (Uses m ps allowed i)
   uses-of i r inside h = holds-like r (λ v. (s : ℕ) × Word-has words i v s) (Uses m ps allowed i) h (λ v. (

@@ -12,7 +12,6 @@ use Rattle.std.specs.declared.option.Option.the-variants.{Some, None}
 use Rattle.std.proofs.shelf.Lists.{length-take-le, getD-set-same, getD-set-other, getD-take, ext-getD}
 use Rattle.std.proofs.shelf.Tests.{cases-eq}
 use Rattle.words.specs.Sets.{In, Lowest}
-use Rattle.words.proofs.Bits.{in-below}
 use Rattle.tallies.specs.Machines.{outcome, state}
 use Rattle.tallies.proofs.Reading.{state-one, state-more}
 use Rattle.layers.specs.Scratch.{Lives}
@@ -128,7 +127,7 @@ module _ (m : Model) (ps : List ℕ) (allowed : ℕ) (words : List ℕ) (small :
   live-begin : (v : ℕ) → 0 < length ps → Begins v → Live m ps allowed 0 v (m .machine .start v)
   live-begin v some (chosen, member) =
       live-word m ps allowed words small lives 0 v (m .machine .start v) some
-      (in-below 32 (getD ps 0 0) v (small 0) chosen, (omega (arith, lives .room), rw (zero-add v) member))
+      (small 0 v chosen, (omega (arith, lives .room), rw (zero-add v) member))
 
   begin-live : (v : ℕ) → 0 < length ps → Live m ps allowed 0 v (m .machine .start v) → Begins v
   begin-live v some live =
@@ -137,7 +136,7 @@ module _ (m : Model) (ps : List ℕ) (allowed : ℕ) (words : List ℕ) (small :
   live-go : (k v s w : ℕ) → k < length ps → Goes-on k v s w → Live m ps allowed k w (m .machine .step s v w)
   live-go k v s w inside (chosen, (pair, member)) =
       live-word m ps allowed words small lives k w (m .machine .step s v w) inside
-      (in-below 32 (getD ps k 0) w (small k) chosen, (omega (arith, lives .room), member))
+      (small k w chosen, (omega (arith, lives .room), member))
 
   go-live : (k v s w : ℕ) → k < length ps → m .pairs v w ≡ true → Live m ps allowed k w (m .machine .step s v w) → Goes-on k v s w
   go-live k v s w inside pair live =

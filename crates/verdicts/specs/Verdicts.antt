@@ -1,7 +1,7 @@
 -- What is told of a row once its live states are found. Assumes nothing.
 use mathlib.Core.Path.{_≡_}
 use mathlib.Core.List.{List}
-use Prim.Native.Nat.{ℕ, _+_, _*_, _^_, _<_, _≤_}
+use Prim.Native.Nat.{ℕ, _+_, _*_, _<_, _≤_}
 use lib.ListN.{length, getD, take}
 use Rattle.std.specs.declared.option.Option.{Option}
 use Rattle.std.specs.declared.option.Option.the-variants.{Some, None}
@@ -10,9 +10,9 @@ use Rattle.tallies.specs.Machines.{outcome}
 use Rattle.layers.specs.Rows.{Model, Possible, First}
 use Rattle.layers.specs.Scratch.{Same-from}
 
--- each palette is a word of 32 bits
+-- no palette has a number above 31
 abbrev pub Palettes : List ℕ → Type 0
-Palettes palettes = (i : ℕ) → getD palettes i 0 < 2 ^ 32
+Palettes palettes = (i v : ℕ) → In v (getD palettes i 0) → v < 32
 
 -- all 32 words of part i are there, and word v of them holds the state s
 abbrev pub Word-has : List ℕ → ℕ → ℕ → ℕ → Type 0

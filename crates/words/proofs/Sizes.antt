@@ -1,13 +1,16 @@
 -- How many members a set has. Assumes nothing.
 use mathlib.Core.Path.{_≡_, refl, sym, ap, ap₂, _∙_, subst}
-use Prim.Native.Nat.{ℕ, zero, suc, _+_, _-_, _/_, _%_, _^_, _<_}
+use mathlib.Core.Logic.{inl, inr}
+use Prim.Native.Nat.{ℕ, zero, suc, _+_, _-_, _/_, _%_, _^_, _≤_, _<_}
 use native.Mathlib.Nat.{mod-lt}
 use native.Mathlib.Numerals.{one-add}
 use native.Mathlib.Omega.{arith}
 use lib.Count.{ones, ones-step, ones-cat}
 use lib.Pow.{split, mod-mod-pow, shr-lt}
 use Rattle.std.proofs.shelf.Bits.{pow-pos, field-of}
-use Rattle.words.specs.Sets.{bit, size}
+use Rattle.std.proofs.shelf.Tests.{cases-eq}
+use Rattle.words.specs.Sets.{bit, In, size}
+use Rattle.words.proofs.Bits.{bit-lt}
 
 size-same : (n a b : ℕ) → ((k : ℕ) → k < n → bit a k ≡ bit b k) → size n a ≡ size n b
 unfolding size
@@ -25,6 +28,21 @@ bit-mod w n k lt =
 ones-digit : (q : ℕ) → q < 2 → ones q ≡ q % 2
 unfolding ones
 ones-digit q lt = let e : q / 2 ≡ 0 = omega arith in ones-step q ∙ ap (λ (x : ℕ). q % 2 + ones x) e ∙ omega arith
+
+-- a set within another has no more members
+pub size-within : (n a b : ℕ) → ((k : ℕ) → In k a → In k b) → size n a ≤ size n b
+unfolding size
+size-within zero a b within = omega arith
+size-within (suc n) a b within = elim (cases-eq (bit a n) 1) [
+  | inl i ↦ omega (arith, within n i, size-within n a b within)
+  | inr ne ↦ omega (arith, bit-lt a n, size-within n a b within)
+]
+
+-- and no set has more than its bits
+pub size-le : (n w : ℕ) → size n w ≤ n
+unfolding size
+size-le zero w = omega arith
+size-le (suc n) w = omega (arith, bit-lt w n, size-le n w)
 
 -- `count_ones` counts the members
 pub ones-size : (n w : ℕ) → w < 2 ^ n → ones w ≡ size n w

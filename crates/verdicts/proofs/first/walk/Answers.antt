@@ -16,7 +16,7 @@ returns-in-rest-first-hatching g c allowed lives =
     let m : Model = model (g .R·NeighbourRule .pairs (c .args .rule .now)) (g .T·Tally .machine (c .args .tally .now)) in
     let ps = c .args .palettes .now in
     let some : 0 < length ps = search needs in
-    (walk-none m ps allowed (c .args .live .now) (λ j. c .typed .palettes j .fits) lives some (c .in-rest-first-hatching .ensures tt), search needs)
+    (walk-none m ps allowed (c .args .live .now) (λ j u i. in-below 32 (getD ps j 0) u (c .typed .palettes j .fits) i) lives some (c .in-rest-first-hatching .ensures tt), search needs)
 
 pub cast-strip : need.cast-strip
 cast-strip g c =
@@ -34,7 +34,7 @@ loop-i-holds g c = (
       let some : 0 < length ps = search needs in
       let is : m .machine .start v ≡ c .start-s .result = search needs in
       subst (Begun m ps allowed (set strip 0 v) 0 v) is
-      (walk-first m ps allowed (c .args .live .now) (λ j. c .typed .palettes j .fits) lives strip v (c .pre .bytes) some (c .in-Some .ensures tt)),
+      (walk-first m ps allowed (c .args .live .now) (λ j u i. in-below 32 (getD ps j 0) u (c .typed .palettes j .fits) i) lives strip v (c .pre .bytes) some (c .in-Some .ensures tt)),
   λ k h. refl,
 )
 
@@ -42,7 +42,7 @@ pub returns-in-rest-next-hatching : need.returns-in-rest-next-hatching
 returns-in-rest-next-hatching g c allowed lives =
     let m : Model = model (g .R·NeighbourRule .pairs (c .args .rule .now)) (g .T·Tally .machine (c .args .tally .now)) in
     let ps = c .args .palettes .now in
-    absurd (walk-on m ps allowed (c .args .live .now) (λ j. c .typed .palettes j .fits) lives (c .loop-i .strip) (c .loop-i .i - 1) (c .loop-i .i) (c .loop-i .v) (c .loop-i .s)
+    absurd (walk-on m ps allowed (c .args .live .now) (λ j u i. in-below 32 (getD ps j 0) u (c .typed .palettes j .fits) i) lives (c .loop-i .strip) (c .loop-i .i - 1) (c .loop-i .i) (c .loop-i .v) (c .loop-i .s)
     (omega arith) (omega arith) (c .loop-i .inv .0 allowed lives) (c .in-rest-next-hatching .ensures tt))
 
 pub loop-i-again : need.loop-i-again
@@ -56,7 +56,7 @@ loop-i-again g c = (
       let e : i ≡ i + 1 - 1 = omega arith in
       let is : m .machine .step (c .loop-i .s) (c .loop-i .v) w ≡ c .step-s .result = search needs in
       subst₂ (λ (q s : ℕ). Begun m ps allowed (set strip i w) q w s) e is
-      (walk-next m ps allowed (c .args .live .now) (λ j. c .typed .palettes j .fits) lives strip (i - 1) i (c .loop-i .v) (c .loop-i .s) w (omega arith) (omega arith)
+      (walk-next m ps allowed (c .args .live .now) (λ j u i. in-below 32 (getD ps j 0) u (c .typed .palettes j .fits) i) lives strip (i - 1) i (c .loop-i .v) (c .loop-i .s) w (omega arith) (omega arith)
       (c .loop-i .inv .0 allowed lives) (c .in-Some-next-hatching .ensures tt)),
   λ k h. getD-set-other (c .loop-i .strip) (c .loop-i .i) k (c .in-Some-next-hatching .w) 0 (omega arith) ∙ c .loop-i .inv .1 k (omega arith),
 )

@@ -1,0 +1,3 @@
+pub mod Agreement
+pub mod Bare
+pub mod Settling
