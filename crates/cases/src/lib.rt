@@ -1,5 +1,7 @@
 // Worked examples of the layers below, run as tests.
 #[cfg(test)]
+mod calls;
+#[cfg(test)]
 mod counts;
 #[cfg(test)]
 mod moved;
