@@ -24,7 +24,7 @@ agrees-blank agrees-fewer agrees-laid agrees-still agrees-with all-at answers-ba
 answers-limit answers-look answers-mark answers-settle answers-withdraw any-too-high back-refusal begin-live
 begun-next bit-and bit-half bit-less bit-low bit-lt bit-mod bit-or bit-pow bit-shl bit-shr bit-zero both-at-least
 by-like capped-lt capped-next carried-fewer carries-back carries-lay carries-limit carries-mark carries-settle
-carries-withdraw completable-of complete-still cond-false cond-true continued-of current-run decides-high
+carries-withdraw completable-of complete-still continued-of current-run decides-high
 decides-member decides-past decides-zero decimal-after decimal-value each-low ending-equal ending-one ending-other
 fallen-hatchings fallen-results fewer-limited fewer-struck fill-refusal first-like first-row first-unread
 formula-code formula-pairs found-high front-first front-le front-next front-whole gather-all gather-more
@@ -43,7 +43,7 @@ reachable-of reachable-small refusal-number row-down run-after same-marks same-u
 settle-refusal settle-rows settled-of shortage-number shown-bit sift-none sift-skip sift-take size-le size-within
 some-high some-like some-mark some-member stand-number state-first state-more state-one stretch-at
 stretch-machine stretch-outcome stretch-rises stretch-stays stretch-step struck-at struck-set struck-take
-table-pairs take-set-le takes-holds through-last through-more through-of through-small through-step to-diagonal
+table-pairs takes-holds through-last through-more through-of through-small through-step to-diagonal
 too-high total-le total-more total-none total-set uses-of walk-next walk-on withdraw-loses withdraw-refusal
 Moved-into no-blank no-i no-k not-all not-high right-size same-cause yes-a yes-high
 within-le words-after words-behind-blanks words-on yields-of zeros-behind

@@ -2,7 +2,7 @@
 use Rattle.std.proofs.Common.{◌≡◌, ℕ, suc, ◌+◌, ◌<◌, ◌≤◌, Bool, true, false, not, ◌⊎◌, List, [], ◌∷◌, ◌++◌, length, take, drop, sym, refl, ap, ◌∙◌, subst, ap₂, inl, inr, one-add, arith}
 use mathlib.Core.Bool.{beq}
 use Rattle.std.proofs.lemmas.List.{append-nil, append_assoc}
-use Rattle.std.proofs.lemmas.Bool.{cases_Bool, cond_true, cond_false, not_from_true, not_from_false, true≢false, false≢true}
+use Rattle.std.proofs.lemmas.Bool.{cases_Bool, cond-true, cond-false, not_from_true, not_from_false, true≢false, false≢true}
 use Rattle.std.proofs.lemmas.List.Sums.{prefix_len-le-length}
 use Rattle.std.specs.List.{prefix_len}
 use Rattle.counting.specs.Lines.{blank, ended, of_kind, words, words_after}
@@ -22,10 +22,10 @@ same_kind false false b e t = ap not (sym e)
 
 -- the front that passes a test, one byte longer or none
 leading_yes : (p : ℕ → Bool) (b : ℕ) (bs : List ℕ) → p b ≡ true → prefix_len p (b ∷ bs) ≡ suc (prefix_len p bs)
-leading_yes p b bs e = cond_true (p b) (1 + prefix_len p bs) 0 e ∙ one-add (prefix_len p bs)
+leading_yes p b bs e = cond-true (p b) (1 + prefix_len p bs) 0 e ∙ one-add (prefix_len p bs)
 
 leading_no : (p : ℕ → Bool) (b : ℕ) (bs : List ℕ) → p b ≡ false → prefix_len p (b ∷ bs) ≡ 0
-leading_no p b bs e = cond_false (p b) (1 + prefix_len p bs) 0 e
+leading_no p b bs e = cond-false (p b) (1 + prefix_len p bs) 0 e
 
 -- blanks in front make no word
 pub words_behind_blanks : (text : List ℕ) → words text ≡ words (drop (prefix_len (of_kind true) text) text)
@@ -35,7 +35,7 @@ words_behind_blanks (b ∷ bs) = go (words_behind_blanks bs) (cases_Bool (blank 
     go : words bs ≡ words (drop (prefix_len (of_kind true) bs) bs) → (blank b ≡ true) ⊎ (blank b ≡ false)
         → words (b ∷ bs) ≡ words (drop (prefix_len (of_kind true) (b ∷ bs)) (b ∷ bs))
     go behind (inl e) =
-        cond_true (blank b) (words bs) (words_after (b ∷ []) bs) e ∙ behind
+        cond-true (blank b) (words bs) (words_after (b ∷ []) bs) e ∙ behind
         ∙ ap (λ (n : ℕ). words (drop n (b ∷ bs))) (sym (leading_yes (of_kind true) b bs e))
     go behind (inr e) = ap (λ (n : ℕ). words (drop n (b ∷ bs))) (sym (leading_no (of_kind true) b bs e))
 
@@ -51,13 +51,13 @@ words_on word (b ∷ bs) = go (words_on (word ++ (b ∷ [])) bs) (cases_Bool (bl
         ≡ ended (word ++ take (prefix_len (of_kind false) (b ∷ bs)) (b ∷ bs)) (words (drop (prefix_len (of_kind false) (b ∷ bs)) (b ∷ bs)))
     go more (inl e) =
         let none : prefix_len (of_kind false) (b ∷ bs) ≡ 0 = leading_no (of_kind false) b bs (not_from_true (blank b) e) in
-        cond_true (blank b) (ended word (words bs)) (words_after (word ++ (b ∷ [])) bs) e
-        ∙ ap₂ ended (sym (append-nil word)) (sym (cond_true (blank b) (words bs) (words_after (b ∷ []) bs) e))
+        cond-true (blank b) (ended word (words bs)) (words_after (word ++ (b ∷ [])) bs) e
+        ∙ ap₂ ended (sym (append-nil word)) (sym (cond-true (blank b) (words bs) (words_after (b ∷ []) bs) e))
         ∙ ap (λ (n : ℕ). ended (word ++ take n (b ∷ bs)) (words (drop n (b ∷ bs)))) (sym none)
     go more (inr e) =
         let n : ℕ = prefix_len (of_kind false) bs in
         let one : prefix_len (of_kind false) (b ∷ bs) ≡ suc n = leading_yes (of_kind false) b bs (not_from_false (blank b) e) in
-        cond_false (blank b) (ended word (words bs)) (words_after (word ++ (b ∷ [])) bs) e ∙ more
+        cond-false (blank b) (ended word (words bs)) (words_after (word ++ (b ∷ [])) bs) e ∙ more
         ∙ ap (λ (w : List ℕ). ended w (words (drop n bs))) (append_assoc word (b ∷ []) (take n bs))
         ∙ ap (λ (k : ℕ). ended (word ++ take k (b ∷ bs)) (words (drop k (b ∷ bs)))) (sym one)
 

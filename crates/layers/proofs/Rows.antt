@@ -1,6 +1,6 @@
 -- A state is live exactly where the two passes find it. Assumes nothing.
 use Rattle.std.proofs.Common.{◌≡◌, ℕ, zero, suc, ◌+◌, ◌<◌, ◌≤◌, true, List, length, get_or, take, set, sym, ap, ◌∙◌, subst, subst₂, inl, inr, add-one, arith}
-use Rattle.std.proofs.lemmas.List.{length-set, length-take-le, get_or-set_same, get_or-set_other, get_or-take, take_all, take-take, take_set_le}
+use Rattle.std.proofs.lemmas.List.{length-set, length-take-le, get_or-set_same, get_or-set_other, get_or-take, take_all, take-take, take-set-le}
 use Rattle.std.proofs.lemmas.Bool.{cases_eq}
 use Rattle.words.specs.Sets.{In}
 use Rattle.tallies.specs.Machines.{state}
@@ -47,7 +47,7 @@ module _ (m : Model) (ps : List ℕ) where
     last = here;
     tally = cc (
       state_more m.machine (set strip (suc i) w) i (simp length-set (omega arith)),
-      take_set_le (suc i) strip (suc i) w (omega arith),
+      take-set-le (suc i) strip (suc i) w (omega arith),
       here,
       before i (omega arith),
     );
@@ -103,7 +103,7 @@ module _ (m : Model) (ps : List ℕ) (allowed : ℕ) where
       go : Continued (set strip (suc i) w) (suc i) → Continued strip i
       go (xs, (whole, same)) = (
         xs,
-        (whole, sym (shorter xs) ∙ ap (take (suc i)) same ∙ shorter (set strip (suc i) w) ∙ take_set_le (suc i) strip (suc i) w (omega arith)),
+        (whole, sym (shorter xs) ∙ ap (take (suc i)) same ∙ shorter (set strip (suc i) w) ∙ take-set-le (suc i) strip (suc i) w (omega arith)),
       )
 
   -- what both passes find is live

@@ -1,7 +1,7 @@
 -- The stretch counter comes to the SEQBIN count. Assumes nothing.
 use Rattle.std.proofs.Common.{◌≡◌, ℕ, zero, suc, ◌+◌, ◌-◌, ◌<◌, ◌≤◌, min, Bool, true, false, cond, not, ltb, List, length, get_or, take, sym, refl, ap, ◌∙◌, add-one, arith}
 use Rattle.std.proofs.lemmas.List.{take_all}
-use Rattle.std.proofs.lemmas.Bool.{lt-ltb, cond_true}
+use Rattle.std.proofs.lemmas.Bool.{lt-ltb, cond-true}
 use Rattle.tallies.specs.Machines.{outcome, state}
 use Rattle.tallies.specs.Rows.{Finished}
 use Rattle.tallies.specs.Stretches.{how_many, seqbin, stretch_machine}
@@ -42,7 +42,7 @@ module _ (C : ℕ → ℕ → Bool) where
     counted false n = omega arith
 
     stretch_at : (i : ℕ) → i < length xs → state (stretch_machine C) (take (suc i) xs) ≡ min (1 + how_many breaks i) 63
-    stretch_at zero h = state_one (stretch_machine C) xs h ∙ cond_true (ltb (get_or xs 0 0) 32) 1 0 (lt-ltb (get_or xs 0 0) 32 (hatched zero h)) ∙ omega (arith, how_many_none breaks)
+    stretch_at zero h = state_one (stretch_machine C) xs h ∙ cond-true (ltb (get_or xs 0 0) 32) 1 0 (lt-ltb (get_or xs 0 0) 32 (hatched zero h)) ∙ omega (arith, how_many_none breaks)
     stretch_at (suc i) h =
         let s : ℕ = state (stretch_machine C) (take (suc i) xs) in
         let before : s ≡ min (1 + how_many breaks i) 63 = stretch_at i (omega arith) in
@@ -62,7 +62,7 @@ module _ (C : ℕ → ℕ → Bool) where
         let all : take (suc (length xs - 1)) xs ≡ xs = take_all (suc (length xs - 1)) xs (omega arith) in
         let s : ℕ = state (stretch_machine C) xs in
         let is : s ≡ min (seqbin C xs) 63 = ap (state (stretch_machine C)) (sym all) ∙ last in
-        cond_true (ltb s 64) s 0 (lt-ltb s 64 (omega arith)) ∙ is
+        cond-true (ltb s 64) s 0 (lt-ltb s 64 (omega arith)) ∙ is
 
     -- no row of at most 60 parts comes to the cap
     pub seqbin_exact : length xs ≤ 60 → min (seqbin C xs) 63 ≡ seqbin C xs

@@ -1,7 +1,7 @@
 -- The plateau counter comes to the LONGESTPLATEAU. Assumes nothing.
 use Rattle.std.proofs.Common.{◌≡◌, ℕ, zero, suc, ◌+◌, ◌-◌, ◌<◌, ◌≤◌, min, max, eqb, ltb, ◌⊎◌, List, length, get_or, take, sym, ap, ◌∙◌, subst, ap₂, inl, inr, arith}
 use Rattle.std.proofs.lemmas.List.{take_all}
-use Rattle.std.proofs.lemmas.Bool.{lt-ltb, eq-eqb, ne_eqb, cond_true, cond_false, cases_eq, cases_lt}
+use Rattle.std.proofs.lemmas.Bool.{lt-ltb, eq-eqb, ne_eqb, cond-true, cond-false, cases_eq, cases_lt}
 use Rattle.tallies.specs.Machines.{outcome, state}
 use Rattle.tallies.specs.Rows.{Finished}
 use Rattle.tallies.specs.Plateaus.{LongestPlateau, current_run, longest_run, plateau_machine, run_after, runs}
@@ -152,7 +152,7 @@ module _ (xs : List ℕ) (row : Finished xs) where
     ending = ending_one xs;
     most = longest_one xs;
     some = omega arith;
-    is = state_one plateau_machine xs h ∙ cond_true (ltb (get_or xs 0 0) 32) 0 0 (lt-ltb (get_or xs 0 0) 32 (hatched zero h));
+    is = state_one plateau_machine xs h ∙ cond-true (ltb (get_or xs 0 0) 32) 0 0 (lt-ltb (get_or xs 0 0) 32 (hatched zero h));
   }
   known (suc i) h = next (known i (omega arith)) (cases_eq (get_or xs i 0) (get_or xs (suc i) 0))
     where
@@ -171,7 +171,7 @@ module _ (xs : List ℕ) (row : Finished xs) where
           let m = n.longest in
           let e = ending_equal xs i k n.ending equal in
           let after : run_after (current_run (capped k m)) (get_or xs i 0) (get_or xs (suc i) 0) ≡ min (suc k) 8 =
-          cond_true (eqb (get_or xs i 0) (get_or xs (suc i) 0)) (min (current_run (capped k m) + 1) 8) 1 (eq-eqb (get_or xs i 0) (get_or xs (suc i) 0) equal)
+          cond-true (eqb (get_or xs i 0) (get_or xs (suc i) 0)) (min (current_run (capped k m) + 1) 8) 1 (eq-eqb (get_or xs i 0) (get_or xs (suc i) 0) equal)
           ∙ omega (arith, n.ending.some) in
           record {
             current = suc k;
@@ -186,7 +186,7 @@ module _ (xs : List ℕ) (row : Finished xs) where
           let m = n.longest in
           let e = ending_other xs i other in
           let after : run_after (current_run (capped k m)) (get_or xs i 0) (get_or xs (suc i) 0) ≡ min 1 8 =
-          cond_false (eqb (get_or xs i 0) (get_or xs (suc i) 0)) (min (current_run (capped k m) + 1) 8) 1 (ne_eqb (get_or xs i 0) (get_or xs (suc i) 0) other) in
+          cond-false (eqb (get_or xs i 0) (get_or xs (suc i) 0)) (min (current_run (capped k m) + 1) 8) 1 (ne_eqb (get_or xs i 0) (get_or xs (suc i) 0) other) in
           record {
             current = 1;
             longest = max m 1;
@@ -218,6 +218,6 @@ module _ (xs : List ℕ) (row : Finished xs) where
       counted : outcome plateau_machine xs ≡ min n.longest 8
       counted =
           ap plateau_machine.result is
-          ∙ cond_true (ltb (capped n.current n.longest) 64) (longest_run (capped n.current n.longest)) 0
+          ∙ cond-true (ltb (capped n.current n.longest) 64) (longest_run (capped n.current n.longest)) 0
           (lt-ltb (capped n.current n.longest) 64 (capped_lt n.current n.longest))
           ∙ omega (arith, n.some)

@@ -4,7 +4,7 @@ use native.Mathlib.Nat.{zero-div, div_self, div-eq_of_lt}
 use lib.Arith.{bin_ind}
 use lib.Bits.{bit_and, bit_or, or_step, and_step, or_shr, and_shr, and_mask}
 use Rattle.std.proofs.lemmas.Nat.{pow_pos, pow-add, pow_below, one_shl, shr-shr}
-use Rattle.std.proofs.lemmas.Bool.{eq-eqb, ne_eqb, cases_order, cond_true, cond_false}
+use Rattle.std.proofs.lemmas.Bool.{eq-eqb, ne_eqb, cases_order, cond-true, cond-false}
 use Rattle.words.specs.Sets.{bit, In}
 
 pub bit_lt : (w k : ℕ) → bit w k < 2
@@ -45,10 +45,10 @@ abbrev pub only : ℕ → ℕ → ℕ
 only k j = cond (eqb j k) 1 0
 
 pub only_same : (k : ℕ) → only k k ≡ 1
-only_same k = cond_true (eqb k k) 1 0 (eq-eqb k k refl)
+only_same k = cond-true (eqb k k) 1 0 (eq-eqb k k refl)
 
 pub only_other : (k j : ℕ) → (j ≡ k → ⊥) → only k j ≡ 0
-only_other k j h = cond_false (eqb j k) 1 0 (ne_eqb j k h)
+only_other k j h = cond-false (eqb j k) 1 0 (ne_eqb j k h)
 
 pow_over : (j d : ℕ) → 2 ^ (d + j) / 2 ^ j ≡ 2 ^ d
 pow_over j d = ap (λ (x : ℕ). x / 2 ^ j) (pow-add 2 d j) ∙ mul-div_cancel (2 ^ d) (pow_pos j)
@@ -60,7 +60,7 @@ bit_pow k j = go (cases_order j k)
     go : (j ≡ k) ⊎ ((j < k) ⊎ (k < j)) → 2 ^ k / 2 ^ j % 2 ≡ only k j
     go (inl e) =
         ap (λ (x : ℕ). 2 ^ k / 2 ^ x % 2) e ∙ ap (λ (x : ℕ). x % 2) (div_self (pow_pos k))
-        ∙ sym (cond_true (eqb j k) 1 0 (eq-eqb j k e))
+        ∙ sym (cond-true (eqb j k) 1 0 (eq-eqb j k e))
     go (inr (inl l)) =
         let d = k - (j + 1) in
         let e : k ≡ (d + 1) + j = omega arith in

@@ -3,7 +3,7 @@ use Rattle.std.specs.Char.{is_ascii_digit}
 use Rattle.std.specs.Str.{all_ascii_digits}
 use Rattle.std.proofs.lemmas.List.{at_drop_more, at_drop_all, take_all}
 use Rattle.std.proofs.lemmas.List.Sums.{fold_more}
-use Rattle.std.proofs.lemmas.Bool.{cond_true, cond_false}
+use Rattle.std.proofs.lemmas.Bool.{cond-true, cond-false}
 use Rattle.counting.specs.Lines.{decimal_value}
 use Rattle.counting.proofs.line.number.Goals as goal
 
@@ -14,7 +14,7 @@ returns-then-not-is-ascii-digit c =
     let here : all_ascii_digits (drop i w) ≡ (is_ascii_digit (get_or w i 0) && all_ascii_digits (drop (i + 1) w)) = at_drop_more all_ascii_digits w i 0 c.loop-b-test.true in
     let not_all : all_ascii_digits w ≡ false =
     sym c.loop-b.invariant.0 ∙ here ∙ ap (λ b. b && all_ascii_digits (drop (i + 1) w)) (sym c.if-not-is-ascii-digit.ensures.value) in
-    sym (cond_false (all_ascii_digits w) (Some (min (decimal_value w) 4294967295)) None not_all)
+    sym (cond-false (all_ascii_digits w) (Some (min (decimal_value w) 4294967295)) None not_all)
 
 -- ten times a number and a digit, both up to the largest number
 next_value : (n d m p : ℕ) → m ≡ min n 4294967295 → p ≡ min (m * 10) 4294967295 → min (p + d) 4294967295 ≡ min (10 * n + d) 4294967295
@@ -38,5 +38,5 @@ returns c =
     let w = c.args.word.now in
     let i = c.loop-b.b-index in
     let all : true ≡ all_ascii_digits w = sym (at_drop_all all_ascii_digits w i c.loop-b-test.false) ∙ c.loop-b.invariant.0 in
-    sym (cond_true (all_ascii_digits w) (Some (min (decimal_value w) 4294967295)) None (sym all)
+    sym (cond-true (all_ascii_digits w) (Some (min (decimal_value w) 4294967295)) None (sym all)
     ∙ ap Some (sym (c.loop-b.invariant.1 ∙ ap (λ t. min (decimal_value t) 4294967295) (take_all i w c.loop-b-test.false))))
