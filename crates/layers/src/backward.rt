@@ -13,7 +13,7 @@ use words::{WordSet, members};
 
 // Of the states at v, those that a step to a hatching of `to` takes into the layer.
 fn departures<T: Tally>(tally: &T, states: u64, layer: &[u64; 32], to: u32, v: u32) -> u64
-    ensures { Holds result (Departs (machine tally.now) states layer.now (λ w. In w to) v) }
+    ensures { Holds result (Departs (T.machine tally.now) states layer.now (λ w. In w to) v) }
 {
     let mut going = 0u64;
     for w in members(to) {
@@ -31,7 +31,7 @@ fn retain<T: Tally>(
     live: [u64; 32],
     next: u32,
 ) -> [u64; 32]
-    ensures { HoldsEach result (λ v s. In v palette × Departs (machine tally.now) (slice_index layer v) live (λ w. In w (slice_index neighbours.now.after v) × In w next) v s) }
+    ensures { HoldsEach result (λ v s. In v palette × Departs (T.machine tally.now) (slice_index layer v) live (λ w. In w (slice_index neighbours.now.after v) × In w next) v s) }
 {
     let mut retained = [0; 32];
     for v in members(palette) {
@@ -43,7 +43,7 @@ fn retain<T: Tally>(
 
 // The states of the tally whose result is allowed.
 fn ending_states<T: Tally>(tally: &T, allowed: u64) -> u64
-    ensures { Holds result (λ s. (s < states) × In ((machine tally.now).result s) allowed) }
+    ensures { Holds result (λ s. (s < states) × In ((T.machine tally.now).result s) allowed) }
 {
     let mut ending = 0u64;
     for s in 0..T::state_count().value {
@@ -74,7 +74,7 @@ pub(crate) fn backward<T: Tally>(
     scratch: &mut [u64],
 )
     requires { 32 * length palettes.now ≤ length scratch.old }
-    ensures through { Retains (machine tally.now) neighbours.now.after palettes.now allowed scratch.old scratch.new }
+    ensures through { Retains (T.machine tally.now) neighbours.now.after palettes.now allowed scratch.old scratch.new }
     ensures rest { SameFrom (32 * length palettes.now) scratch.new scratch.old }
 {
     let [.., palette] = palettes else {

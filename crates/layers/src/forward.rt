@@ -13,7 +13,7 @@ use words::{WordSet, members};
 
 // The states in which a row can have w, right after a hatching of `from` in a state of the layer.
 fn arrivals<T: Tally>(tally: &T, layer: &[u64; 32], from: u32, w: u32) -> u64
-    ensures { Holds result (Arrives (machine tally.now) layer.now (λ v. In v from) w) }
+    ensures { Holds result (Arrives (T.machine tally.now) layer.now (λ v. In v from) w) }
 {
     let mut states = 0u64;
     for v in members(from) {
@@ -30,7 +30,7 @@ fn advance<T: Tally>(
     palette: u32,
     next: u32,
 ) -> [u64; 32]
-    ensures { HoldsEach result (λ w s. In w next × Arrives (machine tally.now) layer (λ v. In v (slice_index neighbours.now.before w) × In v palette) w s) }
+    ensures { HoldsEach result (λ w s. In w next × Arrives (T.machine tally.now) layer (λ v. In v (slice_index neighbours.now.before w) × In v palette) w s) }
 {
     let mut after = [0; 32];
     for w in members(next) {
@@ -42,7 +42,7 @@ fn advance<T: Tally>(
 
 // The layer of the first part.
 fn first_layer<T: Tally>(tally: &T, palette: u32) -> [u64; 32]
-    ensures { HoldsEach result (λ v s. In v palette × ((machine tally.now).start v ≡ s)) }
+    ensures { HoldsEach result (λ v s. In v palette × ((T.machine tally.now).start v ≡ s)) }
 {
     let mut layer = [0; 32];
     for v in members(palette) {
@@ -59,7 +59,7 @@ pub(crate) fn forward<T: Tally>(
     scratch: &mut [u64],
 )
     requires room { 32 * length palettes.now ≤ length scratch.old }
-    ensures reached { Reaches (machine tally.now) neighbours.now.before palettes.now scratch.new }
+    ensures reached { Reaches (T.machine tally.now) neighbours.now.before palettes.now scratch.new }
     ensures rest { SameFrom (32 * length palettes.now) scratch.new scratch.old }
 {
     let [first, ..] = palettes else {

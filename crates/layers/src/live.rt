@@ -30,7 +30,7 @@ fn pass<R: NeighbourRule, T: Tally>(
     scratch: &mut [u64],
 )
     requires { 32 * length palettes.now ≤ length scratch.old }
-    ensures live { Lives (model (pairs rule.now) (machine tally.now)) palettes.now allowed scratch.new }
+    ensures live { Lives (model (R.pairs rule.now) (T.machine tally.now)) palettes.now allowed scratch.new }
     ensures rest { SameFrom (32 * length palettes.now) scratch.new scratch.old }
 {
     let neighbours = neighbours_of(rule, palettes);
@@ -46,7 +46,7 @@ pub fn write_live<R: NeighbourRule, T: Tally>(
     allowed: u64,
     scratch: &mut [u64],
 ) -> Result<(), Shortage>
-    ensures live { MatchResult result (λ _. Lives (model (pairs rule.now) (machine tally.now)) palettes.now allowed scratch.new) (λ e. (e ≡ Scratch) × (length scratch.old < 32 * length palettes.now) × (scratch.new ≡ scratch.old)) }
+    ensures live { MatchResult result (λ _. Lives (model (R.pairs rule.now) (T.machine tally.now)) palettes.now allowed scratch.new) (λ e. (e ≡ Scratch) × (length scratch.old < 32 * length palettes.now) × (scratch.new ≡ scratch.old)) }
     ensures rest { SameFrom (32 * length palettes.now) scratch.new scratch.old }
 {
     check_scratch(palettes, scratch)?;

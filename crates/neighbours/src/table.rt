@@ -26,7 +26,7 @@ fn in_use(palettes: &[u32]) -> u32
 
 // The hatchings of the set that may stand right after v.
 fn row_after<R: NeighbourRule>(rule: &R, used: u32, v: u32) -> u32
-    ensures { Holds result (λ w. In w used × (pairs rule.now v w ≡ true)) }
+    ensures { Holds result (λ w. In w used × (R.pairs rule.now v w ≡ true)) }
 {
     let mut row = 0u32;
     for w in members(used) {
@@ -39,7 +39,7 @@ fn row_after<R: NeighbourRule>(rule: &R, used: u32, v: u32) -> u32
 
 // The same for each hatching of the set.
 fn table_after<R: NeighbourRule>(rule: &R, used: u32) -> [u32; 32]
-    ensures { HoldsEach result (λ v w. In v used × (In w used × (pairs rule.now v w ≡ true))) }
+    ensures { HoldsEach result (λ v w. In v used × (In w used × (R.pairs rule.now v w ≡ true))) }
 {
     let mut table = [0; 32];
     for v in members(used) {
@@ -74,8 +74,8 @@ fn transposed(table: &[u32; 32], used: u32) -> [u32; 32]
 
 // The neighbours of each hatching that some palette has.
 pub fn neighbours_of<R: NeighbourRule>(rule: &R, palettes: &[u32]) -> Neighbours
-    ensures after { HoldsEach result.after (PairInUse (pairs rule.now) palettes.now) }
-    ensures before { HoldsEach result.before (λ w v. PairInUse (pairs rule.now) palettes.now v w) }
+    ensures after { HoldsEach result.after (PairInUse (R.pairs rule.now) palettes.now) }
+    ensures before { HoldsEach result.before (λ w v. PairInUse (R.pairs rule.now) palettes.now v w) }
 {
     let used = in_use(palettes);
     let after = table_after(rule, used);

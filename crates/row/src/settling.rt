@@ -46,7 +46,7 @@ fn judgement(live: &[u64]) -> Stand
 // Strikes from the record what its live states do not use or have, and answers how many hatchings and results fell.
 fn strike<T: Tally>(tally: &T, row: &mut Record, live: &[u64]) -> (u32, u32)
     requires { 0 < row.old.n }
-    ensures { let a = row.old in ((p : ℕ → ℕ → Bool) → Lives (model p (machine tally.now)) (parts_of a) a.results live.now → Settles (model p (machine tally.now)) a result.0 result.1 row.new) }
+    ensures { let a = row.old in ((p : ℕ → ℕ → Bool) → Lives (model p (T.machine tally.now)) (parts_of a) a.results live.now → Settles (model p (T.machine tally.now)) a result.0 result.1 row.new) }
 {
     let hatchings = narrow(row, live);
     let last = row.n as usize - 1;
@@ -65,7 +65,7 @@ pub fn settle<R: NeighbourRule, T: Tally>(
     row: &mut Record,
     scratch: &mut [u64],
 ) -> Result<(u32, u32), Refusal>
-    ensures { let a = row.old in let b = row.new in let m = model (pairs rule.now) (machine tally.now) in By (settle_refusal a.stand a.n (length scratch.old)) (λ e. (result ≡ Err e) × (b ≡ a) × (scratch.new ≡ scratch.old)) ((h : ℕ) × ((k : ℕ) × ((result ≡ Ok (h, k)) × Settles m a h k b × Lives m (parts_of a) a.results scratch.new × SameFrom (32 * a.n) scratch.new scratch.old))) }
+    ensures { let a = row.old in let b = row.new in let m = model (R.pairs rule.now) (T.machine tally.now) in By (settle_refusal a.stand a.n (length scratch.old)) (λ e. (result ≡ Err e) × (b ≡ a) × (scratch.new ≡ scratch.old)) ((h : ℕ) × ((k : ℕ) × ((result ≡ Ok (h, k)) × Settles m a h k b × Lives m (parts_of a) a.results scratch.new × SameFrom (32 * a.n) scratch.new scratch.old))) }
 {
     if row.stand.is_blank() {
         return Err(Refusal::NoRow);

@@ -6,7 +6,7 @@ use crate::tally::Tally;
 
 // The result of a row, read from its first hatching to its last; an empty row ends in state 0.
 pub fn outcome_of<T: Tally>(tally: &T, row: &[u32]) -> u32
-    ensures { result ≡ outcome (machine tally.now) row.now }
+    ensures { result ≡ outcome (T.machine tally.now) row.now }
 {
     let [first, rest @ ..] = row else {
         return tally.result(0);

@@ -15,7 +15,7 @@ use words::{WordSet, members};
 // The lowest hatching of the palette that a complete row begins with.
 fn first_hatching<T: Tally>(tally: &T, palette: u32, live: &[u64]) -> Option<u32>
     requires { 32 ≤ length live.now }
-    ensures { Lowest (λ v. In v palette × In ((machine tally.now).start v) (slice_index live.now v)) 0 result }
+    ensures { Lowest (λ v. In v palette × In ((T.machine tally.now).start v) (slice_index live.now v)) 0 result }
 {
     for v in members(palette) {
         if live[v as usize].contains(tally.start(v)) {
@@ -36,7 +36,7 @@ fn next_hatching<R: NeighbourRule, T: Tally>(
     s: u32,
 ) -> Option<u32>
     requires { 32 * i + 32 ≤ length live.now }
-    ensures { Lowest (λ w. In w palette × ((pairs rule.now v w ≡ true) × In ((machine tally.now).step s v w) (slice_index live.now (32 * i + w)))) 0 result }
+    ensures { Lowest (λ w. In w palette × ((R.pairs rule.now v w ≡ true) × In ((T.machine tally.now).step s v w) (slice_index live.now (32 * i + w)))) 0 result }
 {
     for w in members(palette) {
         if rule.allows(v, w) && live[32 * i + w as usize].contains(tally.step(s, v, w)) {
@@ -56,7 +56,7 @@ fn walk<R: NeighbourRule, T: Tally>(
 ) -> Option<u32>
     requires words { 32 * length palettes.now ≤ length live.now }
     requires bytes { length palettes.now ≤ length strip.old }
-    ensures { (allowed : ℕ) → Lives (model (pairs rule.now) (machine tally.now)) palettes.now allowed live.now → Fills (model (pairs rule.now) (machine tally.now)) palettes.now allowed strip.old strip.new result }
+    ensures { (allowed : ℕ) → Lives (model (R.pairs rule.now) (T.machine tally.now)) palettes.now allowed live.now → Fills (model (R.pairs rule.now) (T.machine tally.now)) palettes.now allowed strip.old strip.new result }
 {
     let [palette, ..] = palettes else {
         return None;
@@ -88,7 +88,7 @@ pub fn write_first<R: NeighbourRule, T: Tally>(
     scratch: &mut [u64],
     strip: &mut [u8],
 ) -> Result<Option<u32>, Shortage>
-    ensures row { MatchResult result (λ o. Lives (model (pairs rule.now) (machine tally.now)) palettes.now allowed scratch.new × Fills (model (pairs rule.now) (machine tally.now)) palettes.now allowed strip.old strip.new o) (λ e. Shortens (length palettes.now) (length scratch.old) (length strip.old) e × (scratch.new ≡ scratch.old) × (strip.new ≡ strip.old)) }
+    ensures row { MatchResult result (λ o. Lives (model (R.pairs rule.now) (T.machine tally.now)) palettes.now allowed scratch.new × Fills (model (R.pairs rule.now) (T.machine tally.now)) palettes.now allowed strip.old strip.new o) (λ e. Shortens (length palettes.now) (length scratch.old) (length strip.old) e × (scratch.new ≡ scratch.old) × (strip.new ≡ strip.old)) }
     ensures rest { SameFrom (32 * length palettes.now) scratch.new scratch.old }
 {
     check_scratch(palettes, scratch)?;

@@ -49,8 +49,8 @@ fn states_at(live: &[u64], part: usize) -> u64
 
 // The results that some complete row has: those of the states of its last part.
 pub fn results_at<T: Tally>(tally: &T, live: &[u64], part: usize) -> u64
-    ensures words { Holds result (λ k. (s : ℕ) × (PartHas live.now part s × ((machine tally.now).result s ≡ k))) }
-    ensures yields { (p : ℕ → ℕ → Bool) (palettes : List ℕ) (allowed : ℕ) → Palettes palettes → Lives (model p (machine tally.now)) palettes allowed live.now → suc part ≡ length palettes → Holds result (Yields (model p (machine tally.now)) palettes allowed) }
+    ensures words { Holds result (λ k. (s : ℕ) × (PartHas live.now part s × ((T.machine tally.now).result s ≡ k))) }
+    ensures yields { (p : ℕ → ℕ → Bool) (palettes : List ℕ) (allowed : ℕ) → Palettes palettes → Lives (model p (T.machine tally.now)) palettes allowed live.now → suc part ≡ length palettes → Holds result (Yields (model p (T.machine tally.now)) palettes allowed) }
 {
     let mut results = 0u64;
     for s in members(states_at(live, part)) {

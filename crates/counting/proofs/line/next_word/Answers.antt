@@ -6,23 +6,23 @@ use Rattle.counting.specs.Lines.{of_kind, words}
 use Rattle.counting.proofs.Splitting.{first_word, front_le, no_blank_left, words_behind_blanks}
 use Rattle.counting.proofs.line.next_word.Goals as goal
 
-pub split-at-requires : goal.split-at-requires
-split-at-requires c = search (rules, front_le true)
+pub split_at-requires : goal.split_at-requires
+split_at-requires c = search (rules, front_le true)
 
-pub split-at-requires-2 : goal.split-at-requires-2
-split-at-requires-2 c = search (rules, front_le false)
+pub split_at-requires-2 : goal.split_at-requires-2
+split_at-requires-2 c = search (rules, front_le false)
 
 -- the text behind the blanks in front has the same words
 behind : (text rest : List ℕ) (n : ℕ) → n ≡ prefix_len (of_kind true) text → rest ≡ drop n text → words text ≡ words rest
 behind text rest n e b = words_behind_blanks text ∙ ap words (sym (b ∙ ap (λ (k : ℕ). drop k text) e))
 
-pub returns-then-is-empty : goal.returns-then-is-empty
-returns-then-is-empty c =
+pub returns-then-is_empty : goal.returns-then-is_empty
+returns-then-is_empty c =
     let text = c.args.text.now in
-    let rest = c.split-at.result.1.now in
+    let rest = c.split_at.result.1.now in
     let blanks : c.front.result ≡ prefix_len (of_kind true) text = search rules in
-    let none : rest ≡ [] = nil_from_length rest (eqb-true (length rest) 0 (sym c.if-is-empty.ensures)) in
-    record { word = behind text rest c.front.result blanks c.split-at.ensures.back ∙ ap words none; less = tt }
+    let none : rest ≡ [] = nil_from_length rest (eqb-true (length rest) 0 (sym c.if-is_empty.ensures)) in
+    record { word = behind text rest c.front.result blanks c.split_at.ensures.back ∙ ap words none; less = tt }
 
 -- and begins with a word
 begins : (text rest : List ℕ) (n m : ℕ) → n ≡ prefix_len (of_kind true) text → rest ≡ drop n text → 0 < length rest → m ≡ prefix_len (of_kind false) rest
@@ -36,13 +36,13 @@ begins text rest n m e b some f =
 pub returns : goal.returns
 returns c =
     let text = c.args.text.now in
-    let rest = c.split-at.result.1.now in
+    let rest = c.split_at.result.1.now in
     let blanks : c.front.result ≡ prefix_len (of_kind true) text = search rules in
     let inked : c.front-2.result ≡ prefix_len (of_kind false) rest = search rules in
-    let some : 0 < length rest = omega (arith, eqb-false (length rest) 0 (sym c.if-is-empty.ensures)) in
-    let two = c.split-at-2.ensures in
-    let word = begins text rest c.front.result c.front-2.result blanks c.split-at.ensures.back some inked in
+    let some : 0 < length rest = omega (arith, eqb-false (length rest) 0 (sym c.if-is_empty.ensures)) in
+    let two = c.split_at-2.ensures in
+    let word = begins text rest c.front.result c.front-2.result blanks c.split_at.ensures.back some inked in
     record {
       word = word.0 ∙ ap₂ (λ (w r : List ℕ). w ∷ words r) (sym two.front) (sym two.back);
-      less = omega (arith, two.back_len, c.split-at.ensures.back_len, word.1);
+      less = omega (arith, two.back_len, c.split_at.ensures.back_len, word.1);
     }

@@ -3,8 +3,8 @@ use Rattle.counting.specs.Lines.{number_of, words}
 use Rattle.counting.proofs.Unread.{first_unread, read_more}
 use Rattle.counting.proofs.line.numbers.Goals as goal
 
-pub returns-in-default-number : goal.returns-in-default-number
-returns-in-default-number c =
+pub returns-in_default-number : goal.returns-in_default-number
+returns-in_default-number c =
     let l = c.loop-word in
     let none : number_of c.in-Some.word.now ≡ None = search rules in
     let size : c.len.result ≡ length (vec_items l.found) = c.len.ensures ∙ l.found.ok.0 in

@@ -19,13 +19,13 @@ no_plus (b ∷ bs) h e = h bs (ap (λ (x : ℕ). x ∷ bs) e)
 pub returns-in-Ok : goal.returns-in-Ok
 returns-in-Ok c =
     let bs = c.args.text.now in
-    let read = parse_plain own 32 bs c.parse.result c.parse.ensures.value.0 (no_plus bs c.if-starts-with.ensures.cases) in
+    let read = parse_plain own 32 bs c.parse.result c.parse.ensures.value.0 (no_plus bs c.if-starts_with.ensures.cases) in
     let told : WholeNumber bs × (c.in-Ok.n ≡ decimal_value bs) = OkIff-at_ok c.parse.result (WholeNumber bs) (decimal_value bs) c.in-Ok.n read c.in-Ok.is in
     search rules
 
 pub returns-in-Err : goal.returns-in-Err
 returns-in-Err c =
     let bs = c.args.text.now in
-    let read = parse_plain own 32 bs c.parse.result c.parse.ensures.value.0 (no_plus bs c.if-starts-with.ensures.cases) in
+    let read = parse_plain own 32 bs c.parse.result c.parse.ensures.value.0 (no_plus bs c.if-starts_with.ensures.cases) in
     let refused : WholeNumber bs → ⊥ = OkIff-at_err c.parse.result (WholeNumber bs) (decimal_value bs) c.in-Err.field-0 read c.in-Err.is in
     search rules

@@ -26,18 +26,18 @@ loop-i-preserved g c = (
       let m : Model = model p (g.T.Tally.machine c.args.tally.now) in
       let ps = c.args.palettes.now in
       let allowed = c.args.allowed in
-      let small : (j : ℕ) → get_or ps j 0 < 2 ^ 32 = λ j. (c.type-inv.palettes j).fits in
+      let small : (j : ℕ) → get_or ps j 0 < 2 ^ 32 = λ j. (c.type_inv.palettes j).fits in
       let i : ℕ = c.loop-i.i - 1 in
       let k : ℕ = i + 1 in
       let d : ℕ = length ps - suc k in
       let old = c.loop-i.scratch in
       let new = c.store-in-loop-i.new.scratch in
       let before = c.loop-i.invariant.0 p table reached done in
-      let layer = loaded old c.load-layer.result i (Reachable m ps i) c.load-layer.ensures.size c.load-layer.ensures.words
+      let layer = loaded old c.load_layer.result i (Reachable m ps i) c.load_layer.ensures.size c.load_layer.ensures.words
       (reachable_small m ps small i) (before.0 i (omega arith)) in
-      let live = loaded old c.load-live.result k (Through m ps allowed d k) c.load-live.ensures.size c.load-live.ensures.words
+      let live = loaded old c.load_live.result k (Through m ps allowed d k) c.load_live.ensures.size c.load_live.ensures.words
       (through_small m ps allowed small d k) (before.1 k (omega arith) (omega arith)) in
-      let retained = through_more m ps allowed i k d (length ps - suc i) c.load-layer.result c.load-live.result c.retain-retained.result
+      let retained = through_more m ps allowed i k d (length ps - suc i) c.load_layer.result c.load_live.result c.retain-retained.result
       c.args.neighbours.now.after (omega arith) (omega arith) (omega arith) table layer live c.retain-retained.ensures in (
         λ j l. stored_other old new i j (Reachable m ps j) c.store-in-loop-i.ensures.below c.store-in-loop-i.ensures.above (omega arith)
             (before.0 j (omega arith)),
@@ -58,18 +58,18 @@ returns g c = record {
       let m : Model = model p (g.T.Tally.machine t) in
       let ps = c.args.palettes.now in
       let allowed = c.args.allowed in
-      let small : (j : ℕ) → get_or ps j 0 < 2 ^ 32 = λ j. (c.type-inv.palettes j).fits in
+      let small : (j : ℕ) → get_or ps j 0 < 2 ^ 32 = λ j. (c.type_inv.palettes j).fits in
       let last : ℕ = length ps - 1 in
       let old = c.args.scratch.now in
       let new = c.store.new.scratch in
       let layer = loaded old c.load.result last (Reachable m ps last) c.load.ensures.size c.load.ensures.words
       (reachable_small m ps small last) (reached last (omega arith)) in
-      let live = through_last m ps allowed last g.T.Tally.states c.ending-states-ending.result c.load.result c.last-layer.result layer
+      let live = through_last m ps allowed last g.T.Tally.states c.ending-states-ending.result c.load.result c.last_layer.result layer
       (reachable_few m ps g.T.Tally.states (g.met.T.Tally.starts t) (g.met.T.Tally.steps t) last) c.ending-states-ending.ensures
       (search rules) in
       let none : 0 ≡ length ps - suc last = omega arith in
       let done = subst (λ (d : ℕ). Stored new last (Through m ps allowed d last)) none
-      (stored new c.last-layer.result last (Through m ps allowed 0 last) c.store.ensures.here live) in
+      (stored new c.last_layer.result last (Through m ps allowed 0 last) c.store.ensures.here live) in
       (c.loop-i.invariant.0 p table
       (λ j l. stored_other old new last j (Reachable m ps j) c.store.ensures.below c.store.ensures.above (omega arith) (reached j (omega arith)))
       done).1 i (omega arith) h;

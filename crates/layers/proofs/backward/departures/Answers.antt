@@ -3,7 +3,7 @@ use Rattle.words.proofs.Walking.{gather_none, gather_more}
 use Rattle.layers.proofs.backward.departures.Goals as goal
 
 pub loop-w-init : goal.loop-w-init
-loop-w-init g c = gather_none _ c.args.to c.into-iter-w-iterator.result.rest (search rules)
+loop-w-init g c = gather_none _ c.args.to c.into_iter-w-iterator.result.rest (search rules)
 
 pub loop-w-preserved : goal.loop-w-preserved
 loop-w-preserved g c =

@@ -3,7 +3,7 @@ use Rattle.words.proofs.Walking.{lay_none, lay_more}
 use Rattle.layers.proofs.forward.advance.Goals as goal
 
 pub loop-w-init : goal.loop-w-init
-loop-w-init g c = (search rules, lay_none _ c.args.next 32 c.into-iter-w-iterator.result.rest (search rules))
+loop-w-init g c = (search rules, lay_none _ c.args.next 32 c.into_iter-w-iterator.result.rest (search rules))
 
 pub loop-w-preserved : goal.loop-w-preserved
 loop-w-preserved g c = (

@@ -3,7 +3,7 @@ use Rattle.words.proofs.Walking.{gather_none, gather_more}
 use Rattle.layers.proofs.forward.arrivals.Goals as goal
 
 pub loop-v-init : goal.loop-v-init
-loop-v-init g c = gather_none _ c.args.from c.into-iter-v-iterator.result.rest (search rules)
+loop-v-init g c = gather_none _ c.args.from c.into_iter-v-iterator.result.rest (search rules)
 
 pub loop-v-preserved : goal.loop-v-preserved
 loop-v-preserved g c =

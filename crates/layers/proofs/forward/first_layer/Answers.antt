@@ -3,7 +3,7 @@ use Rattle.words.proofs.Walking.{holds_one, lay_none, lay_more}
 use Rattle.layers.proofs.forward.first_layer.Goals as goal
 
 pub loop-v-init : goal.loop-v-init
-loop-v-init g c = (search rules, lay_none _ c.args.palette 32 c.into-iter-v-iterator.result.rest (search rules))
+loop-v-init g c = (search rules, lay_none _ c.args.palette 32 c.into_iter-v-iterator.result.rest (search rules))
 
 pub loop-v-preserved : goal.loop-v-preserved
 loop-v-preserved g c =

@@ -13,9 +13,9 @@ loop-i-init g c = (
       let m : Model = model p (g.T.Tally.machine c.args.tally.now) in
       let ps = c.args.palettes.now in
       let first : j ≡ 0 = omega arith in
-      let made : HoldsEach c.first-layer.result (Reachable m ps 0) = search rules in
+      let made : HoldsEach c.first_layer.result (Reachable m ps 0) = search rules in
       subst (λ (q : ℕ). Stored c.store.new.scratch q (Reachable m ps q)) (sym first)
-      (stored c.store.new.scratch c.first-layer.result 0 (Reachable m ps 0) c.store.ensures.here made),
+      (stored c.store.new.scratch c.first_layer.result 0 (Reachable m ps 0) c.store.ensures.here made),
   λ k h. refl,
 )
 
@@ -28,9 +28,9 @@ loop-i-preserved g c = (
       let i : ℕ = k - 1 in
       let old = c.loop-i.scratch in
       let new = c.store-in-loop-i.new.scratch in
-      let layer = loaded old c.load-layer.result i (Reachable m ps i) c.load-layer.ensures.size c.load-layer.ensures.words
-      (reachable_small m ps (λ q. (c.type-inv.palettes q).fits) i) (c.loop-i.invariant.0 p table i (omega arith)) in
-      let next = reach_more m ps i k c.load-layer.result c.advance-next.result c.args.neighbours.now.before (omega arith) (omega arith) table layer
+      let layer = loaded old c.load_layer.result i (Reachable m ps i) c.load_layer.ensures.size c.load_layer.ensures.words
+      (reachable_small m ps (λ q. (c.type_inv.palettes q).fits) i) (c.loop-i.invariant.0 p table i (omega arith)) in
+      let next = reach_more m ps i k c.load_layer.result c.advance-next.result c.args.neighbours.now.before (omega arith) (omega arith) table layer
       c.advance-next.ensures in
       elim (cases_eq j k) [
         | inl e ↦ subst (λ (q : ℕ). Stored new q (Reachable m ps q)) (sym e)

@@ -4,6 +4,6 @@ use Rattle.layers.proofs.store.load.Goals as goal
 
 pub returns : goal.returns
 returns c = record {
-  size = c.copy-from-slice.ensures.len;
-  words = λ v h. grind (arith, c.copy-from-slice.ensures.after, get_or-take, get_or-drop);
+  size = c.copy_from_slice.ensures.len;
+  words = λ v h. grind (arith, c.copy_from_slice.ensures.after, get_or-take, get_or-drop);
 }

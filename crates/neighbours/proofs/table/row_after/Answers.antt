@@ -3,4 +3,4 @@ use Rattle.words.proofs.Walking.{gather_none}
 use Rattle.neighbours.proofs.table.row_after.Goals as goal
 
 pub loop-w-init : goal.loop-w-init
-loop-w-init g c = gather_none _ c.args.used c.into-iter-w-iterator.result.rest (search rules)
+loop-w-init g c = gather_none _ c.args.used c.into_iter-w-iterator.result.rest (search rules)

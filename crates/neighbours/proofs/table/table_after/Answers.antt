@@ -3,4 +3,4 @@ use Rattle.words.proofs.Walking.{lay_none}
 use Rattle.neighbours.proofs.table.table_after.Goals as goal
 
 pub loop-v-init : goal.loop-v-init
-loop-v-init g c = (search rules, lay_none _ c.args.used 32 c.into-iter-v-iterator.result.rest (search rules))
+loop-v-init g c = (search rules, lay_none _ c.args.used 32 c.into_iter-v-iterator.result.rest (search rules))

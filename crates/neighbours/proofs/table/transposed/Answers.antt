@@ -3,4 +3,4 @@ use Rattle.words.proofs.Walking.{lay_none}
 use Rattle.neighbours.proofs.table.transposed.Goals as goal
 
 pub loop-w-init : goal.loop-w-init
-loop-w-init c = (search rules, lay_none _ c.args.used 32 c.into-iter-w-iterator.result.rest (search rules))
+loop-w-init c = (search rules, lay_none _ c.args.used 32 c.into_iter-w-iterator.result.rest (search rules))

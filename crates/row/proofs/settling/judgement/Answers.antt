@@ -2,19 +2,19 @@ use Rattle.std.proofs.Common.{refl, rules}
 use Rattle.std.proofs.lemmas.Bool.{both_ways}
 use Rattle.row.proofs.settling.judgement.Goals as goal
 
-pub returns-then-is-possible : goal.returns-then-is-possible
-returns-then-is-possible c = record {
+pub returns-then-is_possible : goal.returns-then-is_possible
+returns-then-is_possible c = record {
   stand = λ m ps allowed small lives some. (
     λ possible. search rules,
-    λ none. absurd (none ((c.is-possible.ensures.possible m ps allowed small lives some).0 c.if-is-possible.true)),
+    λ none. absurd (none ((c.is_possible.ensures.possible m ps allowed small lives some).0 c.if-is_possible.true)),
   );
   laid = search rules;
 }
 
-pub returns-else-is-possible : goal.returns-else-is-possible
-returns-else-is-possible c = record {
+pub returns-else-is_possible : goal.returns-else-is_possible
+returns-else-is_possible c = record {
   stand = λ m ps allowed small lives some. (
-    λ possible. absurd (both_ways c.is-possible.result c.if-is-possible.false ((c.is-possible.ensures.possible m ps allowed small lives some).1 possible)),
+    λ possible. absurd (both_ways c.is_possible.result c.if-is_possible.false ((c.is_possible.ensures.possible m ps allowed small lives some).1 possible)),
     λ none. search rules,
   );
   laid = search rules;

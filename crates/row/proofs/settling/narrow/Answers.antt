@@ -8,14 +8,14 @@ use Rattle.bare.specs.Settling.{total}
 use Rattle.row.proofs.Totals.{total_more, total_set, total_le}
 use Rattle.row.proofs.settling.narrow.Goals as goal
 
-pub overflow-sub-fallen : goal.overflow-sub-fallen
-overflow-sub-fallen c =
+pub overflow_sub-fallen : goal.overflow_sub-fallen
+overflow_sub-fallen c =
     let i = c.loop-i.i in
     let within = size_within 32 c.intersection-rest.result (get_or c.loop-i.row.palettes i 0) (λ k j. ((c.intersection-rest.ensures k).0 j).0) in
     search rules
 
-pub overflow-add-fallen : goal.overflow-add-fallen
-overflow-add-fallen c =
+pub overflow_add-fallen : goal.overflow_add-fallen
+overflow_add-fallen c =
     let i = c.loop-i.i in
     let fallen : c.loop-i.fallen ≤ 32 * i = omega (arith, total_le i c.args.row.now.palettes, c.loop-i.invariant.3) in
     let more : c.count.result ≤ 32 = search (rules, size_le 32 (get_or c.loop-i.row.palettes i 0)) in
@@ -31,7 +31,7 @@ loop-i-preserved c =
     let here : get_or (set ps i rest) i 0 ≡ rest = get_or-set_same ps i rest 0 inside in
     let was : get_or ps i 0 ≡ get_or old i 0 = c.loop-i.invariant.2 i (omega arith) in
     let P : ℕ → ℕ → Type 0 = λ j v. In v (get_or old j 0) × ((s : ℕ) × WordHas c.args.live.now j v s) in
-    let used : Holds c.used-at.result (λ v. (s : ℕ) × WordHas c.args.live.now i v s) = search rules in
+    let used : Holds c.used_at.result (λ v. (s : ℕ) × WordHas c.args.live.now i v s) = search rules in
     let narrowed : Holds rest (P i) = λ v. (
       λ k. let t = (c.intersection-rest.ensures v).0 k in (subst (In v) was t.0, (used v).0 t.1),
       λ t. (c.intersection-rest.ensures v).1 (subst (In v) (sym was) t.0, (used v).1 t.1),

@@ -9,13 +9,13 @@ use Rattle.bare.specs.Settling.{parts_of}
 use Rattle.row.proofs.Keeping.{kept_had, kept_used, parts_small}
 use Rattle.row.proofs.settling.strike.Goals as goal
 
-pub overflow-sub-results : goal.overflow-sub-results
-overflow-sub-results g c =
+pub overflow_sub-results : goal.overflow_sub-results
+overflow_sub-results g c =
     let within = size_within 64 c.intersection-had.result c.narrow-hatchings.new.row.results (λ k j. ((c.intersection-had.ensures k).0 j).0) in
     search rules
 
-pub invariant-of-row : goal.invariant-of-row
-invariant-of-row g c =
+pub invariant_of-row : goal.invariant_of-row
+invariant_of-row g c =
     let b = c.narrow-hatchings.new.row in
     let laid : is_blank c.judgement-row.result ≡ false = c.judgement-row.ensures.laid in
     let some : 0 < b.n = omega (arith, c.requires, c.narrow-hatchings.ensures.same_size.n) in (
@@ -49,12 +49,12 @@ returns g c p lives =
     let parts : length ps ≡ a.n = length-take-le a.n a.palettes (omega (arith, a.parts)) in
     let some : 0 < length ps = omega (arith, c.requires, parts) in
     let last : suc (c.narrow-hatchings.new.row.n - 1) ≡ length ps = omega (arith, parts, narrowed.same_size.n, c.requires) in
-    let had = c.results-at.ensures.yields p ps a.results (parts_small a) lives last in
-    let kept : Holds c.intersection-had.result (λ k. In k a.results × In k c.results-at.result) =
-    subst (λ (w : ℕ). Holds c.intersection-had.result (λ k. In k w × In k c.results-at.result)) narrowed.results c.intersection-had.ensures in
+    let had = c.results_at.ensures.yields p ps a.results (parts_small a) lives last in
+    let kept : Holds c.intersection-had.result (λ k. In k a.results × In k c.results_at.result) =
+    subst (λ (w : ℕ). Holds c.intersection-had.result (λ k. In k w × In k c.results_at.result)) narrowed.results c.intersection-had.ensures in
     let within = size_within 64 c.intersection-had.result a.results (λ k j. ((kept k).0 j).0) in
     let before : c.count.result ≡ size 64 a.results = c.count.ensures ∙ ap (size 64) narrowed.results in
-    let left = kept_had m ps a.results c.results-at.result c.intersection-had.result had kept in
+    let left = kept_had m ps a.results c.results_at.result c.intersection-had.result had kept in
     let judged = c.judgement-row.ensures.stand m ps a.results (parts_small a) lives some in
     record {
       used = λ i h. kept_used m ps a.results live (parts_small a) lives i (get_or a.palettes i 0) (get_or c.narrow-hatchings.new.row.palettes i 0) (omega (arith, parts))

@@ -7,7 +7,7 @@ use Rattle.verdicts.proofs.Telling.{yields_of}
 use Rattle.verdicts.proofs.reading.results_at.Goals as goal
 
 pub loop-s-init : goal.loop-s-init
-loop-s-init g c = gather_none _ c.into-iter-s-iterator.result.rest c.into-iter-s-iterator.result.rest (search rules)
+loop-s-init g c = gather_none _ c.into_iter-s-iterator.result.rest c.into_iter-s-iterator.result.rest (search rules)
 
 pub loop-s-preserved : goal.loop-s-preserved
 loop-s-preserved g c =
@@ -18,16 +18,16 @@ loop-s-preserved g c =
     let is : (g.T.Tally.machine t).result s ≡ k = search rules in
     let small : k < 64 = omega (arith, is, g.met.T.Tally.results t s) in
     let joined = joined_one 64 c.loop-s.results c.with-results.result k (F s) c.with-results.ensures small (λ j. (λ e. sym e ∙ is, λ e. is ∙ sym e)) in
-    gather_more F c.into-iter-s-iterator.result.rest 64 c.loop-s.s-iterator.rest c.next.new.self.rest s c.loop-s.results c.with-results.result
+    gather_more F c.into_iter-s-iterator.result.rest 64 c.loop-s.s-iterator.rest c.next.new.self.rest s c.loop-s.results c.with-results.result
     c.in-Some.ensures.steps joined c.loop-s.invariant
 
 pub returns : goal.returns
 returns g c =
     let live = c.args.live.now in
     let k = g.T.Tally.machine c.args.tally.now in
-    let all = gather_all _ c.into-iter-s-iterator.result.rest c.loop-s.s-iterator.rest c.loop-s.results c.in-None.ensures.steps c.loop-s.invariant in
-    let is : c.into-iter-s-iterator.result.rest ≡ c.states-at.result = search rules in
-    let states : Holds c.states-at.result (PartHas live c.args.part) = search rules in
+    let all = gather_all _ c.into_iter-s-iterator.result.rest c.loop-s.s-iterator.rest c.loop-s.results c.in-None.ensures.steps c.loop-s.invariant in
+    let is : c.into_iter-s-iterator.result.rest ≡ c.states_at.result = search rules in
+    let states : Holds c.states_at.result (PartHas live c.args.part) = search rules in
     let results : Holds c.loop-s.results (λ r. (s : ℕ) × (PartHas live c.args.part s × (k.result s ≡ r))) = λ r. (
       λ i. let t = (all r).0 i in (t.0, ((states t.0).0 (subst (In t.0) is t.1.0), t.1.1)),
       λ t. (all r).1 (t.0, (subst (In t.0) (sym is) ((states t.0).1 t.1.0), t.1.1)),

@@ -6,10 +6,10 @@ use Rattle.words.proofs.Walking.{sift_none, sift_take, sift_skip}
 use Rattle.verdicts.specs.Verdicts.{WordHas}
 use Rattle.verdicts.proofs.Telling.{uses_of}
 use Rattle.verdicts.proofs.reading.used_at.Goals as goal
-use Rattle.verdicts.proofs.reading.used_at.Goals.{then-has-state, else-has-state}
+use Rattle.verdicts.proofs.reading.used_at.Goals.{then-has_state, else-has_state}
 
-pub returns-then-part-live : goal.returns-then-part-live
-returns-then-part-live c =
+pub returns-then-part_live : goal.returns-then-part_live
+returns-then-part_live c =
     let live = c.args.live.now in
     let none : Holds 0 (λ v. (s : ℕ) × WordHas live c.args.part v s) = λ k. (λ i. absurd ((holds_zero k).0 i), λ t. absurd (omega (arith, t.1.1.0))) in
     record { words = none; uses = λ m ps allowed small lives inside. uses_of m ps allowed live small lives c.args.part 0 inside none }
@@ -22,10 +22,10 @@ loop-v-preserved c =
     let v = c.loop-v.v in
     let P : ℕ → Type 0 = λ k. (s : ℕ) × In s (get_or c.args.live.now (32 * c.args.part + k) 0) in
     let G : ℕ → Type 0 = λ all. Holds all (λ k. (k < v + 1) × P k) in
-    elim c.if-has-state.branch [
-      | then-has-state w ↦ subst G (sym w.used-is) (sift_take P 32 v c.loop-v.used w.with-used.result (omega arith)
+    elim c.if-has_state.branch [
+      | then-has_state w ↦ subst G (sym w.used-is) (sift_take P 32 v c.loop-v.used w.with-used.result (omega arith)
           (search rules) w.with-used.ensures c.loop-v.invariant)
-      | else-has-state w ↦ subst G (sym w.used-is) (sift_skip P v c.loop-v.used (λ f. both_ways c.has-state.result w.if-has-state.false (c.has-state.ensures.1 f))
+      | else-has_state w ↦ subst G (sym w.used-is) (sift_skip P v c.loop-v.used (λ f. both_ways c.has_state.result w.if-has_state.false (c.has_state.ensures.1 f))
           c.loop-v.invariant)
     ]
 

@@ -7,8 +7,8 @@ use Rattle.record.specs.Copies.{no_copy}
 use Rattle.record.proofs.Tables.{put_more}
 use Rattle.record.proofs.record.Record.mark.Goals as goal
 
-pub invariant-of-self : goal.invariant-of-self
-invariant-of-self c =
+pub invariant_of-self : goal.invariant_of-self
+invariant_of-self c =
     let a = c.args.self.now in
     let put : c.put.new.self.saved ≡ set a.undo.saved a.marks (saved_of a) = search rules in
     let room : a.marks < length a.undo.saved = search rules in

@@ -7,7 +7,7 @@ use Rattle.tallies.proofs.plateau.PlateauCounterTally.preimage.Goals as goal
 
 pub returns-then-v-w : goal.returns-then-v-w
 returns-then-v-w c =
-    let moved : Holds c.row-down-into.result (Preimage (λ s. to_diagonal (row_down s)) c.args.target) =
+    let moved : Holds c.row_down_into.result (Preimage (λ s. to_diagonal (row_down s)) c.args.target) =
     search (rules, preimage_then row_down to_diagonal (λ s. omega arith)) in
     search (rules, preimage_by plateau_machine c.args.v c.args.w (λ s. to_diagonal (row_down s)), plateau_goes_on)
 

@@ -7,7 +7,7 @@ pub returns : goal.returns
 returns g c =
     let pairs = g.C.NeighbourRule.pairs c.args.self.now.rule in
     let xs = c.args.row.now in
-    let row : Finished xs = c.in-ok-check-finished.ensures in
+    let row : Finished xs = c.in_ok-check_finished.ensures in
     let counted = stretch_outcome pairs xs row in
     let exact = seqbin_exact pairs xs row in
     record { finished = row; result = search rules; counts = cc; exact = λ short. cc (exact short) }

@@ -5,7 +5,7 @@ use Rattle.tallies.proofs.tally.Tally.image.Goals as goal
 pub loop-s-init : goal.loop-s-init
 loop-s-init g c =
     let F : ℕ → ℕ → Type 0 = λ s t. (g.Self.Tally.machine c.args.self.now).step s c.args.v c.args.w ≡ t in
-    gather_none F c.args.set c.into-iter-s-iterator.result.rest (search rules)
+    gather_none F c.args.set c.into_iter-s-iterator.result.rest (search rules)
 
 pub loop-s-preserved : goal.loop-s-preserved
 loop-s-preserved g c =

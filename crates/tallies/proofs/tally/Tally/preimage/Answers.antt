@@ -6,7 +6,7 @@ use Rattle.tallies.proofs.tally.Tally.preimage.Goals as goal
 pub loop-s-init : goal.loop-s-init
 loop-s-init g c =
     let F : ℕ → ℕ → Type 0 = λ s t. (t ≡ s) × In ((g.Self.Tally.machine c.args.self.now).step s c.args.v c.args.w) c.args.target in
-    gather_none F c.args.set c.into-iter-s-iterator.result.rest (search rules)
+    gather_none F c.args.set c.into_iter-s-iterator.result.rest (search rules)
 
 pub loop-s-preserved-then-contains : goal.loop-s-preserved-then-contains
 loop-s-preserved-then-contains g c =
