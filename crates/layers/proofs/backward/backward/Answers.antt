@@ -33,11 +33,11 @@ loop-i-preserved g c = (
       let old = c.loop-i.scratch in
       let new = c.store-in-loop-i.new.scratch in
       let before = c.loop-i.invariant.0 p table reached done in
-      let layer = loaded old c.load_layer.result i (Reachable m ps i) c.load_layer.ensures.size c.load_layer.ensures.words
+      let layer = loaded old c.load-layer.result i (Reachable m ps i) c.load-layer.ensures.size c.load-layer.ensures.words
       (reachable_small m ps small i) (before.0 i (omega arith)) in
-      let live = loaded old c.load_live.result k (Through m ps allowed d k) c.load_live.ensures.size c.load_live.ensures.words
+      let live = loaded old c.load-live.result k (Through m ps allowed d k) c.load-live.ensures.size c.load-live.ensures.words
       (through_small m ps allowed small d k) (before.1 k (omega arith) (omega arith)) in
-      let retained = through_more m ps allowed i k d (length ps - suc i) c.load_layer.result c.load_live.result c.retain-retained.result
+      let retained = through_more m ps allowed i k d (length ps - suc i) c.load-layer.result c.load-live.result c.retain-retained.result
       c.args.neighbours.now.after (omega arith) (omega arith) (omega arith) table layer live c.retain-retained.ensures in (
         λ j l. stored_other old new i j (Reachable m ps j) c.store-in-loop-i.ensures.below c.store-in-loop-i.ensures.above (omega arith)
             (before.0 j (omega arith)),
@@ -64,8 +64,8 @@ returns g c = record {
       let new = c.store.new.scratch in
       let layer = loaded old c.load.result last (Reachable m ps last) c.load.ensures.size c.load.ensures.words
       (reachable_small m ps small last) (reached last (omega arith)) in
-      let live = through_last m ps allowed last g.T.Tally.states c.ending-states-ending.result c.load.result c.last_layer.result layer
-      (reachable_few m ps g.T.Tally.states (g.met.T.Tally.starts t) (g.met.T.Tally.steps t) last) c.ending-states-ending.ensures
+      let live = through_last m ps allowed last g.T.Tally.states c.ending_states-ending.result c.load.result c.last_layer.result layer
+      (reachable_few m ps g.T.Tally.states (g.met.T.Tally.starts t) (g.met.T.Tally.steps t) last) c.ending_states-ending.ensures
       (search rules) in
       let none : 0 ≡ length ps - suc last = omega arith in
       let done = subst (λ (d : ℕ). Stored new last (Through m ps allowed d last)) none

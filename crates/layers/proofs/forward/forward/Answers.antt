@@ -28,9 +28,9 @@ loop-i-preserved g c = (
       let i : ℕ = k - 1 in
       let old = c.loop-i.scratch in
       let new = c.store-in-loop-i.new.scratch in
-      let layer = loaded old c.load_layer.result i (Reachable m ps i) c.load_layer.ensures.size c.load_layer.ensures.words
+      let layer = loaded old c.load-layer.result i (Reachable m ps i) c.load-layer.ensures.size c.load-layer.ensures.words
       (reachable_small m ps (λ q. (c.type_inv.palettes q).fits) i) (c.loop-i.invariant.0 p table i (omega arith)) in
-      let next = reach_more m ps i k c.load_layer.result c.advance-next.result c.args.neighbours.now.before (omega arith) (omega arith) table layer
+      let next = reach_more m ps i k c.load-layer.result c.advance-next.result c.args.neighbours.now.before (omega arith) (omega arith) table layer
       c.advance-next.ensures in
       elim (cases_eq j k) [
         | inl e ↦ subst (λ (q : ℕ). Stored new q (Reachable m ps q)) (sym e)

@@ -11,8 +11,8 @@ returns g c =
     let m : Model = model p (g.T.Tally.machine c.args.tally.now) in
     let ps = c.args.palettes.now in
     let allowed = c.args.allowed in
-    let reached = c.forward.ensures.reached p c.neighbours-of-neighbours.ensures.before in
-    let through = c.backward.ensures.through p c.neighbours-of-neighbours.ensures.after reached in
+    let reached = c.forward.ensures.reached p c.neighbours_of-neighbours.ensures.before in
+    let through = c.backward.ensures.through p c.neighbours_of-neighbours.ensures.after reached in
     record {
       live = record {
         room = search rules;

@@ -8,8 +8,8 @@ use Rattle.verdicts.proofs.Telling.{uses_of}
 use Rattle.verdicts.proofs.reading.used_at.Goals as goal
 use Rattle.verdicts.proofs.reading.used_at.Goals.{then-has_state, else-has_state}
 
-pub returns-then-part_live : goal.returns-then-part_live
-returns-then-part_live c =
+pub returns-then-part-live : goal.returns-then-part-live
+returns-then-part-live c =
     let live = c.args.live.now in
     let none : Holds 0 (λ v. (s : ℕ) × WordHas live c.args.part v s) = λ k. (λ i. absurd ((holds_zero k).0 i), λ t. absurd (omega (arith, t.1.1.0))) in
     record { words = none; uses = λ m ps allowed small lives inside. uses_of m ps allowed live small lives c.args.part 0 inside none }
