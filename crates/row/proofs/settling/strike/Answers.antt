@@ -14,29 +14,11 @@ overflow_sub-results g c =
     let within = size_within 64 c.intersection-had.result c.narrow-hatchings.new.row.results (λ k j. ((c.intersection-had.ensures k).0 j).0) in
     search rules
 
-pub invariant_of-row : goal.invariant_of-row
-invariant_of-row g c =
-    let b = c.narrow-hatchings.new.row in
-    let laid : is_blank c.judgement-row.result ≡ false = c.judgement-row.ensures.laid in
-    let some : 0 < b.n = omega (arith, c.requires, c.narrow-hatchings.ensures.same_size.n) in (
-      b.places,
-      (
-        b.copies,
-        (
-          b.parts,
-          (
-            b.hatchings,
-            (
-              b.held,
-              (
-                b.drawn,
-                (b.saved_drawn, (λ not-blank. some, (λ e. absurd (both_ways (is_blank c.judgement-row.result) laid (ap is_blank e)), (b.saved_laid, tt)))),
-              ),
-            ),
-          ),
-        ),
-      ),
-    )
+pub invariant_of-row-clause-laid : goal.invariant_of-row-clause-laid
+invariant_of-row-clause-laid g c = λ not-blank. omega (arith, c.requires, c.narrow-hatchings.ensures.same_size.n)
+
+pub invariant_of-row-clause-unmarked : goal.invariant_of-row-clause-unmarked
+invariant_of-row-clause-unmarked g c = λ e. absurd (both_ways (is_blank c.judgement-row.result) c.judgement-row.ensures.laid (ap is_blank e))
 
 pub returns : goal.returns
 returns g c p lives =
