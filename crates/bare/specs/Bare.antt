@@ -1,5 +1,5 @@
 -- The bare record: what the calls' arguments alone make of a record from which settle strikes nothing. Assumes nothing.
-use Rattle.std.specs.Prelude.{◌≡◌, ℕ, ◌-◌, ◌^◌, cond, List, [], ◌∷◌, length, set, ◌==◌, slice_index, slice_set}
+use Rattle.std.specs.Prelude.{◌≡◌, ℕ, ◌-◌, ◌^◌, cond, List, [], ◌∷◌, length, ◌==◌, slice_index, slice_set}
 use Rattle.words.specs.Sets.{bit}
 use Rattle.record.specs.declared.stand.Stand.{Stand}
 use Rattle.record.specs.declared.stand.Stand.TheVariants.{Blank, Open, Settled, Dead}

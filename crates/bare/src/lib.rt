@@ -1,1 +1,3 @@
+#![tactic(auto)]
+
 // The bare record of a row's calls, what it means that a row agrees with it, and that each call keeps them agreeing.

@@ -1,3 +1,5 @@
+#![tactic(auto)]
+
 // Worked examples of the layers below, run as tests.
 #[cfg(test)]
 mod calls;

@@ -1,4 +1,6 @@
 // Counts finished rows: one line of standard input a row, hatchings as decimal numbers apart by blanks.
+#![tactic(auto)]
+
 use anyhow::anyhow;
 use counting::{Counts, count_line, whole_number};
 use std::io::{BufRead, BufReader};

@@ -1,4 +1,6 @@
 // Finished rows as lines of text: what a line says, what its row counts, and what is wrong where it is no row.
+#![tactic(auto)]
+
 pub mod counts;
 pub mod fault;
 pub mod line;

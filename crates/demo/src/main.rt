@@ -1,5 +1,7 @@
 // Shows what the assistant does, on a row of three parts: each call, its reply, and the palettes after it.
 // A hatching that is still possible stands by itself, one that is struck in brackets.
+#![tactic(auto)]
+
 use record::{Refusal, Stand};
 use row::Row;
 use rules::FormulaRule;

@@ -5,9 +5,9 @@ use Rattle.std.proofs.lemmas.Bool.{cases_lt}
 use Rattle.words.specs.Sets.{In, Holds, HoldsEach}
 use Rattle.words.proofs.Bits.{in_below}
 use Rattle.words.proofs.Membership.{holds_zero}
-use Rattle.neighbours.specs.Pairs.{InUse, PairInUse}
+use Rattle.neighbours.specs.Pairs.{PairInUse}
 use Rattle.layers.specs.Layers.{Arrives, Departs, Stored}
-use Rattle.layers.specs.Passes.{Reachable, Completable, Through}
+use Rattle.layers.specs.Passes.{Reachable, Through}
 use Rattle.layers.specs.Rows.{Model}
 
 module _ (m : Model) (ps : List ℕ) where

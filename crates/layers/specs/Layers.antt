@@ -1,6 +1,6 @@
 -- Layers: for each hatching of a part a set of states. Assumes nothing.
 use Rattle.std.specs.Prelude.{ℕ, ◌+◌, ◌*◌, ◌<◌, List, slice_index}
-use Rattle.words.specs.Sets.{In, Holds}
+use Rattle.words.specs.Sets.{Holds}
 use Rattle.tallies.specs.Machines.{Machine, Image, Preimage}
 
 -- word v of the 32 words of part i holds exactly the states s of which P v s is true

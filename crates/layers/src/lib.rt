@@ -1,4 +1,6 @@
 // The engine: exactly the live states of a row, for every neighbour rule and every tally.
+#![tactic(auto)]
+
 mod backward;
 mod forward;
 pub mod live;

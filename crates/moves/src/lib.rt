@@ -1,5 +1,7 @@
 // Whole sets of numbers below 64 moved at once: for each map, the image of a set and the preimage of a set,
 // by a few operations on the word.
+#![tactic(auto)]
+
 pub mod counts;
 pub mod grid;
 

@@ -1,5 +1,5 @@
 -- What an accepted call answers, and what it makes of the record a: each field of b. Assumes nothing.
-use Rattle.std.specs.Prelude.{◌≡◌, ℕ, ◌+◌, ◌-◌, List, set, replicate, Option, ◌≢◌, slice_index, slice_set}
+use Rattle.std.specs.Prelude.{◌≡◌, ℕ, ◌+◌, ◌-◌, List, replicate, Option, ◌≢◌, slice_index, slice_set}
 use Rattle.words.specs.Sets.{In, Holds, Lowest, size}
 use Rattle.record.specs.declared.record.Record.{Record}
 use Rattle.record.specs.declared.stand.Stand.TheVariants.{Blank, Open}

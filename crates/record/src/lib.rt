@@ -1,6 +1,8 @@
 // The record of a row of parts: for each part a palette of hatchings, the results that are allowed,
 // how the row stands, and at most eight marks to go back to.
 // A call that is refused says why, and leaves the record as it was.
+#![tactic(auto)]
+
 mod laying;
 mod looking;
 mod marking;

@@ -36,19 +36,19 @@ impl Record {
     }
 
     // Takes a result out of those that are allowed, and answers how many are left.
-    pub fn limit(&mut self, res: u32) -> Result<u32, Refusal>
-        ensures { let a = self.old in Replies (limit_refusal a.stand res) a result self.new (Limits a res) }
+    pub fn limit(&mut self, outcome: u32) -> Result<u32, Refusal>
+        ensures { let a = self.old in Replies (limit_refusal a.stand outcome) a result self.new (Limits a outcome) }
     {
         if self.stand.is_blank() {
             return Err(Refusal::NoRow);
         }
-        if res > LAST_RESULT {
+        if outcome > LAST_RESULT {
             return Err(Refusal::NoResult);
         }
-        if self.results.contains(res) {
+        if self.results.contains(outcome) {
             self.stand = Stand::Open;
         }
-        self.results = self.results.without(res);
+        self.results = self.results.without(outcome);
         Ok(self.results.count())
     }
 }

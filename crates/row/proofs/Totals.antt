@@ -1,5 +1,5 @@
 -- How many hatchings the palettes have together. Assumes nothing.
-use Rattle.std.proofs.Common.{◌≡◌, ℕ, zero, suc, ◌+◌, ◌*◌, ◌<◌, ◌≤◌, List, get_or, set, refl, ap, ◌∙◌, ap₂, add-one, arith}
+use Rattle.std.proofs.Common.{◌≡◌, ℕ, zero, suc, ◌+◌, ◌*◌, ◌≤◌, List, get_or, set, refl, ap, ap₂, add-one, arith}
 use Rattle.std.proofs.lemmas.List.{get_or-set_other}
 use Rattle.words.specs.Sets.{size}
 use Rattle.words.proofs.Sizes.{size_le}

@@ -61,12 +61,12 @@ impl<R: NeighbourRule, T: Tally> Row<R, T> {
     }
 
     // Takes a result out of those that are allowed, and answers how many are left.
-    pub fn limit(&mut self, res: u32) -> Result<u32, Refusal>
-        ensures reply { let a = self.old.record in Replies (limit_refusal a.stand res) a result self.new.record (Limits a res) }
+    pub fn limit(&mut self, outcome: u32) -> Result<u32, Refusal>
+        ensures reply { let a = self.old.record in Replies (limit_refusal a.stand outcome) a result self.new.record (Limits a outcome) }
         ensures stays { Keeps self.old self.new }
-        ensures carries { let m = model (R.NeighbourRule.pairs self.old.rule) (T.Tally.machine self.old.tally) in Carries m (λ x y. Limit m x res y) self.old.record self.new.record }
+        ensures carries { let m = model (R.NeighbourRule.pairs self.old.rule) (T.Tally.machine self.old.tally) in Carries m (λ x y. Limit m x outcome y) self.old.record self.new.record }
     {
-        self.record.limit(res)
+        self.record.limit(outcome)
     }
 
     // Saves the row as the youngest mark, and answers how many marks are held.

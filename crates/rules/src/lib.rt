@@ -1,4 +1,6 @@
 // Neighbour rules: which hatching may stand right after which.
+#![tactic(auto)]
+
 pub mod formula;
 pub mod mirror;
 pub mod neighbours;

@@ -1,4 +1,6 @@
 // Tallies: what is counted along a row of hatchings.
+#![tactic(auto)]
+
 pub mod finished;
 pub mod outcome;
 mod outside;

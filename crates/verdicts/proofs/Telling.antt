@@ -1,9 +1,9 @@
 -- What the live states of a row tell of its complete rows. Assumes nothing.
-use Rattle.std.proofs.Common.{◌≡◌, ℕ, suc, ◌+◌, ◌*◌, ◌<◌, ◌≤◌, Bool, List, length, get_or, take, Decides, sym, refl, ap, ◌∙◌, subst, arith}
+use Rattle.std.proofs.Common.{◌≡◌, ℕ, suc, ◌+◌, ◌<◌, Bool, List, length, get_or, take, Decides, sym, refl, ap, ◌∙◌, subst, arith}
 use Rattle.std.proofs.lemmas.List.{take_all}
 use Rattle.words.specs.Sets.{In, Holds}
 use Rattle.words.proofs.Walking.{holds_like}
-use Rattle.tallies.specs.Machines.{outcome, state}
+use Rattle.tallies.specs.Machines.{state}
 use Rattle.layers.specs.Scratch.{Lives}
 use Rattle.verdicts.specs.Verdicts.{Palettes, PartHas, WordHas}
 use Rattle.layers.specs.Rows.{Model, Complete, Live, Possible, Uses, Yields}

@@ -1,4 +1,6 @@
 // What the live states of a row tell: used hatchings, results, whether a row is complete, and the first complete row.
+#![tactic(auto)]
+
 pub mod first;
 pub mod reading;
 

@@ -1,5 +1,7 @@
 // Sets of small numbers, kept in the bits of a word: bit k, lowest first, stands for the number k.
 // A number at or above the word's width is in no set, whatever number it is.
+#![tactic(auto)]
+
 ghost use Rattle.std.specs.Prelude.{◌≡◌, ℕ, ◌<◌, true, ◌⊎◌, IfSome, Decides, ◌≢◌};
 ghost use Rattle.words.specs.Sets.{In, Holds, Lowest, size};
 

@@ -1,6 +1,5 @@
 use Rattle.std.proofs.Common.{◌≡◌, ℕ, suc, ◌+◌, ◌-◌, ◌^◌, ◌<◌, length, get_or, sym, refl, ◌∙◌, subst, inl, inr, arith, rules}
 use Rattle.std.proofs.lemmas.Bool.{cases_eq}
-use Rattle.words.specs.Sets.{HoldsEach}
 use Rattle.layers.specs.Layers.{Stored}
 use Rattle.layers.specs.Passes.{Reachable, Through}
 use Rattle.layers.specs.Rows.{Model, model}

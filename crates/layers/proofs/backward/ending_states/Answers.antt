@@ -1,4 +1,4 @@
-use Rattle.std.proofs.Common.{arith, rules}
+use Rattle.std.proofs.Common.{arith}
 use Rattle.words.proofs.Membership.{holds_zero}
 use Rattle.layers.proofs.backward.ending_states.Goals as goal
 

@@ -1,4 +1,3 @@
-use borrow.Author.Rules.{rules}
 use native.Mathlib.Omega.{arith}
 use Rattle.words.proofs.Membership.{holds_zero}
 use Rattle.neighbours.proofs.table.in_use.Goals as goal

@@ -1,5 +1,5 @@
 use Prim.Native.Nat.{ℕ, ◌<◌}
-use lib.ListN.{length, get_or}
+use lib.ListN.{get_or}
 use Rattle.words.specs.Sets.{In, Holds}
 use Rattle.neighbours.proofs.table.in_use.Given as goal
 

@@ -1,10 +1,9 @@
-use Rattle.std.proofs.Common.{◌≡◌, ℕ, ◌+◌, ◌-◌, ◌*◌, ◌<◌, ◌≤◌, List, length, get_or, set, sym, ap, ◌∙◌, subst, inl, inr, arith, rules}
+use Rattle.std.proofs.Common.{◌≡◌, ℕ, ◌*◌, ◌<◌, ◌≤◌, List, length, get_or, set, sym, ◌∙◌, subst, inl, inr, arith, rules}
 use Rattle.std.proofs.lemmas.List.{get_or-set_same, get_or-set_other, length-set}
 use Rattle.std.proofs.lemmas.Bool.{cases_eq}
 use Rattle.words.specs.Sets.{In, Holds, size}
 use Rattle.words.proofs.Sizes.{size_le, size_within}
 use Rattle.verdicts.specs.Verdicts.{WordHas}
-use Rattle.bare.specs.Settling.{total}
 use Rattle.row.proofs.Totals.{total_more, total_set, total_le}
 use Rattle.row.proofs.settling.narrow.Goals as goal
 

@@ -1,4 +1,4 @@
-use Rattle.std.proofs.Common.{ℕ, get_or}
+use Rattle.std.proofs.Common.{get_or}
 use Rattle.words.specs.Sets.{In}
 use Rattle.words.proofs.Walking.{Passing}
 use Rattle.verdicts.proofs.first.first_hatching.Given as goal

@@ -1,4 +1,4 @@
-use Rattle.std.proofs.Common.{◌≡◌, ℕ, ◌+◌, ◌*◌, true, get_or}
+use Rattle.std.proofs.Common.{◌≡◌, ◌+◌, ◌*◌, true, get_or}
 use Rattle.words.specs.Sets.{In}
 use Rattle.words.proofs.Walking.{Passing}
 use Rattle.verdicts.proofs.first.next_hatching.Given as goal

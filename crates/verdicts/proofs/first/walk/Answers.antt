@@ -1,7 +1,6 @@
-use Rattle.std.proofs.Common.{◌≡◌, ℕ, suc, ◌+◌, ◌-◌, ◌<◌, ◌≤◌, List, length, get_or, set, sym, refl, ap, ◌∙◌, subst, subst₂, arith, rules}
-use Rattle.std.proofs.lemmas.List.{get_or-set_other, length-set}
+use Rattle.std.proofs.Common.{◌≡◌, ℕ, ◌+◌, ◌-◌, ◌<◌, length, get_or, set, sym, refl, ◌∙◌, subst, subst₂, arith, rules}
+use Rattle.std.proofs.lemmas.List.{get_or-set_other}
 use Rattle.words.proofs.Bits.{in_below}
-use Rattle.verdicts.specs.Verdicts.{Palettes}
 use Rattle.layers.specs.Rows.{Model, model}
 use Rattle.verdicts.proofs.Walks.{Begun, first_of, walk_first, walk_next, walk_none, walk_on}
 use Rattle.verdicts.proofs.first.walk.Goals as goal

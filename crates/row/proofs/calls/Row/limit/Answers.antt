@@ -10,5 +10,5 @@ returns g c =
     record {
       reply = search rules;
       stays = search rules;
-      carries = λ x agrees. carries_limit m x self.«record» c.limit.new.self agrees c.args.res c.limit.result (search rules);
+      carries = λ x agrees. carries_limit m x self.«record» c.limit.new.self agrees c.args.outcome c.limit.result (search rules);
     }

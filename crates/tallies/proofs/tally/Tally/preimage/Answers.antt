@@ -1,4 +1,4 @@
-use Rattle.std.proofs.Common.{◌≡◌, ℕ, ◌<◌, sym, ◌∙◌, arith, rules}
+use Rattle.std.proofs.Common.{◌≡◌, ℕ, ◌<◌, rules}
 use Rattle.words.specs.Sets.{In}
 use Rattle.words.proofs.Walking.{gather_none, gather_more, joined_one}
 use Rattle.tallies.proofs.tally.Tally.preimage.Goals as goal

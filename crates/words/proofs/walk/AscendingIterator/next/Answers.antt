@@ -1,4 +1,4 @@
-use Rattle.std.proofs.Common.{ℕ, ◌≤◌, arith, rules}
+use Rattle.std.proofs.Common.{ℕ, arith, rules}
 use Rattle.words.proofs.Membership.{less_without}
 use Rattle.words.proofs.walk.AscendingIterator.next.Goals as goal
 
