@@ -8,7 +8,7 @@ mod counts;
 #[cfg(test)]
 mod moved;
 #[cfg(test)]
-mod neighbours;
+mod pairs;
 #[cfg(test)]
 mod rows;
 #[cfg(test)]
