@@ -1,6 +1,6 @@
+// Worked examples of the layers below, run as tests.
 #![tactic(auto)]
 
-// Worked examples of the layers below, run as tests.
 #[cfg(test)]
 mod calls;
 #[cfg(test)]

@@ -23,10 +23,10 @@ first_unread ws seen rest word ns k split read size none =
 
     before : (j : ℕ) → j < k → is_some (number_of (get_or (seen ++ (word ∷ rest)) j [])) ≡ true
     before j l =
-        let in-seen : j < length seen = omega (arith, at) in
-        let in-ns : j < length ns = omega (arith, size) in
-        ap (λ (w : List ℕ). is_some (number_of w)) (get_or_append_left seen (word ∷ rest) [] j in-seen)
-        ∙ ap is_some (sym (get_or-map number_of seen j [] None in-seen) ∙ ap (λ (l : List (Option ℕ)). get_or l j None) read ∙ get_or-map Some ns j 0 None in-ns)
+        let in_seen : j < length seen = omega (arith, at) in
+        let in_ns : j < length ns = omega (arith, size) in
+        ap (λ (w : List ℕ). is_some (number_of w)) (get_or_append_left seen (word ∷ rest) [] j in_seen)
+        ∙ ap is_some (sym (get_or-map number_of seen j [] None in_seen) ∙ ap (λ (l : List (Option ℕ)). get_or l j None) read ∙ get_or-map Some ns j 0 None in_ns)
 
 -- one word more
 pub read_more : (ws seen rest : List (List ℕ)) (word ns more : List ℕ) (n : ℕ) → ws ≡ seen ++ (word ∷ rest) → map number_of seen ≡ map Some ns

@@ -1,5 +1,5 @@
 // The table of neighbours.
-ghost use Rattle.std.specs.Prelude.{◌≡◌, true, ℕ, get_or};
+ghost use Rattle.std.specs.Prelude.{◌≡◌, true, ℕ, slice_index};
 ghost use Rattle.words.specs.Sets.{In, Holds, HoldsEach};
 ghost use Rattle.neighbours.specs.Pairs.{InUse, PairInUse};
 
@@ -50,7 +50,7 @@ fn table_after<R: NeighbourRule>(rule: &R, used: u32) -> [u32; 32]
 
 // The hatchings of the set whose row of the table has w.
 fn column(table: &[u32; 32], used: u32, w: u32) -> u32
-    ensures { Holds result (λ v. In v used × In w (get_or table.now v 0)) }
+    ensures { Holds result (λ v. In v used × In w (slice_index table.now v)) }
 {
     let mut column = 0u32;
     for v in members(used) {
@@ -63,7 +63,7 @@ fn column(table: &[u32; 32], used: u32, w: u32) -> u32
 
 // The table with rows and columns exchanged.
 fn transposed(table: &[u32; 32], used: u32) -> [u32; 32]
-    ensures { HoldsEach result (λ w v. In w used × (In v used × In w (get_or table.now v 0))) }
+    ensures { HoldsEach result (λ w v. In w used × (In v used × In w (slice_index table.now v))) }
 {
     let mut turned = [0; 32];
     for w in members(used) {

@@ -111,8 +111,8 @@ module _ (m : Model) (ps : List ℕ) (allowed : ℕ) (words : List ℕ) (small :
   abbrev Begins : ℕ → Type 0
   Begins v = In v (get_or ps 0 0) × In (m.machine.start v) (get_or words v 0)
 
-  abbrev Goes_on : ℕ → ℕ → ℕ → ℕ → Type 0
-  Goes_on k v s w = In w (get_or ps k 0) × ((m.pairs v w ≡ true) × In (m.machine.step s v w) (get_or words (32 * k + w) 0))
+  abbrev GoesOn : ℕ → ℕ → ℕ → ℕ → Type 0
+  GoesOn k v s w = In w (get_or ps k 0) × ((m.pairs v w ≡ true) × In (m.machine.step s v w) (get_or words (32 * k + w) 0))
 
   -- the words say so exactly where the state is live
   live_begin : (v : ℕ) → 0 < length ps → Begins v → Live m ps allowed 0 v (m.machine.start v)
@@ -124,12 +124,12 @@ module _ (m : Model) (ps : List ℕ) (allowed : ℕ) (words : List ℕ) (small :
   begin_live v some live =
       (live_chosen m ps allowed 0 v (m.machine.start v) some live, rw (zero-add v) at (word_live m ps allowed words small lives 0 v (m.machine.start v) some live).1.1)
 
-  live_go : (k v s w : ℕ) → k < length ps → Goes_on k v s w → Live m ps allowed k w (m.machine.step s v w)
+  live_go : (k v s w : ℕ) → k < length ps → GoesOn k v s w → Live m ps allowed k w (m.machine.step s v w)
   live_go k v s w inside (chosen, (pair, member)) =
       live_word m ps allowed words small lives k w (m.machine.step s v w) inside
       (small k w chosen, (omega (arith, lives.room), member))
 
-  go_live : (k v s w : ℕ) → k < length ps → m.pairs v w ≡ true → Live m ps allowed k w (m.machine.step s v w) → Goes_on k v s w
+  go_live : (k v s w : ℕ) → k < length ps → m.pairs v w ≡ true → Live m ps allowed k w (m.machine.step s v w) → GoesOn k v s w
   go_live k v s w inside pair live =
       (live_chosen m ps allowed k w (m.machine.step s v w) inside live, (pair, (word_live m ps allowed words small lives k w (m.machine.step s v w) inside live).1.1))
 
@@ -141,7 +141,7 @@ module _ (m : Model) (ps : List ℕ) (allowed : ℕ) (words : List ℕ) (small :
   pub walk_none : 0 < length ps → Lowest Begins 0 None → Possible m ps allowed → ⊥
   walk_none some none possible = let t = live_starts m ps allowed possible in none t.0 (omega arith) (begin_live t.0 some t.1)
 
-  pub walk_next : (strip : List ℕ) (i k v s w : ℕ) → suc i ≡ k → k < length ps → Begun m ps allowed strip i v s → Lowest (Goes_on k v s) 0 (Some w)
+  pub walk_next : (strip : List ℕ) (i k v s w : ℕ) → suc i ≡ k → k < length ps → Begun m ps allowed strip i v s → Lowest (GoesOn k v s) 0 (Some w)
       → Begun m ps allowed (set strip k w) k w (m.machine.step s v w)
   walk_next strip i k v s w e inside begun low =
       subst (λ (q : ℕ). Begun m ps allowed (set strip q w) q w (m.machine.step s v w)) e
@@ -151,7 +151,7 @@ module _ (m : Model) (ps : List ℕ) (allowed : ℕ) (words : List ℕ) (small :
       (go_live k v s u inside pair (subst (λ (q : ℕ). Live m ps allowed q u (m.machine.step s v u)) e live))))
 
   -- a walk that has begun does not end before the last part
-  pub walk_on : (strip : List ℕ) (i k v s : ℕ) → suc i ≡ k → k < length ps → Begun m ps allowed strip i v s → Lowest (Goes_on k v s) 0 None → ⊥
+  pub walk_on : (strip : List ℕ) (i k v s : ℕ) → suc i ≡ k → k < length ps → Begun m ps allowed strip i v s → Lowest (GoesOn k v s) 0 None → ⊥
   walk_on strip i k v s e inside begun none =
       let t = live_goes_on m ps allowed i v s (omega arith) begun.live in
       none t.0 (omega arith) (go_live k v s t.0 inside t.1.0 (subst (λ (q : ℕ). Live m ps allowed q t.0 (m.machine.step s v t.0)) e t.1.1))
