@@ -3,7 +3,8 @@ use Rattle.std.proofs.Common.{◌≡◌, ℕ, zero, suc, ◌+◌, ◌-◌, ◌*�
 use native.Mathlib.Nat.{zero-div, div_self, div-eq_of_lt}
 use lib.Arith.{bin_ind}
 use lib.Bits.{bit_and, bit_or, or_step, and_step, or_shr, and_shr, and_mask}
-use Rattle.std.proofs.lemmas.Nat.{pow_pos, pow-add, pow_below, one_shl, shr-shr}
+use lib.Pow.{mod-mod-pow}
+use Rattle.std.proofs.lemmas.Nat.{pow_pos, field_of, pow-add, pow_below, one_shl, shr-shr}
 use Rattle.std.proofs.lemmas.Bool.{eq-eqb, ne_eqb, cases_order, cond-true, cond-false}
 use Rattle.words.specs.Sets.{bit, In}
 
@@ -108,3 +109,11 @@ in_below n w k h i = go (cases_order n k)
 pub no_bits : (w : ℕ) → ((k : ℕ) → bit w k ≡ 0) → w ≡ 0
 no_bits = bin_ind (λ (w : ℕ). ((k : ℕ) → bit w k ≡ 0) → w ≡ 0) (λ h. refl)
     (λ w ih h. let e : w / 2 ≡ 0 = ih (λ k. bit_half w k ∙ h (suc k)) in omega (arith, bit_low w, h 0))
+
+-- the bits below n of what is left below 2 ^ n
+pub bit_mod : (w n k : ℕ) → k < n → bit (w % 2 ^ n) k ≡ bit w k
+unfolding bit
+bit_mod w n k lt =
+    let j : ℕ = n - k - 1 in
+    let e : n ≡ (j + 1) + k = omega arith in
+    ap (λ (x : ℕ). w % 2 ^ x / 2 ^ k % 2) e ∙ ap (λ (x : ℕ). x % 2) (field_of w (j + 1) k) ∙ mod-mod-pow (w / 2 ^ k) j 1

@@ -1,28 +1,35 @@
 -- How many members a set has. Assumes nothing.
-use Rattle.std.proofs.Common.{◌≡◌, ℕ, zero, suc, ◌+◌, ◌-◌, ◌/◌, ◌%◌, ◌^◌, ◌<◌, ◌≤◌, sym, refl, ap, ◌∙◌, subst, ap₂, inl, inr, mod-lt, one-add, arith, shr_lt}
+use Rattle.std.proofs.Common.{◌≡◌, ℕ, zero, suc, ◌+◌, ◌/◌, ◌%◌, ◌^◌, ◌<◌, ◌≤◌, sym, refl, ap, ◌∙◌, subst, ap₂, inl, inr, mod-lt, one-add, arith, shr_lt}
 use lib.Count.{ones, ones_step, ones_cat}
-use lib.Pow.{split, mod-mod-pow}
-use Rattle.std.proofs.lemmas.Nat.{pow_pos, field_of}
+use lib.Pow.{split}
+use Rattle.std.proofs.lemmas.Nat.{pow_pos}
 use Rattle.std.proofs.lemmas.Bool.{cases_eq}
 use Rattle.words.specs.Sets.{bit, In, size}
-use Rattle.words.proofs.Bits.{bit_lt}
+use Rattle.words.proofs.Bits.{bit_lt, bit_mod}
 
 size_same : (n a b : ℕ) → ((k : ℕ) → k < n → bit a k ≡ bit b k) → size n a ≡ size n b
 unfolding size
 size_same zero a b h = refl
 size_same (suc n) a b h = ap₂ (λ (x y : ℕ). x + y) (h n (omega arith)) (size_same n a b (λ k l. h k (omega arith)))
 
--- the bits below n of what is left below 2 ^ n
-bit_mod : (w n k : ℕ) → k < n → bit (w % 2 ^ n) k ≡ bit w k
-unfolding bit
-bit_mod w n k lt =
-    let j : ℕ = n - k - 1 in
-    let e : n ≡ (j + 1) + k = omega arith in
-    ap (λ (x : ℕ). w % 2 ^ x / 2 ^ k % 2) e ∙ ap (λ (x : ℕ). x % 2) (field_of w (j + 1) k) ∙ mod-mod-pow (w / 2 ^ k) j 1
-
 ones_digit : (q : ℕ) → q < 2 → ones q ≡ q % 2
 unfolding ones
 ones_digit q lt = let e : q / 2 ≡ 0 = omega arith in ones_step q ∙ ap (λ (x : ℕ). q % 2 + ones x) e ∙ omega arith
+
+-- a set whose numbers are all below m has as many of them below any n from m on
+pub size_below : (m w n : ℕ) → ((k : ℕ) → In k w → k < m) → m ≤ n → size n w ≡ size m w
+unfolding size
+size_below m w zero below le = let none : zero ≡ m = omega arith in ap (λ (x : ℕ). size x w) none
+size_below m w (suc n) below le = elim (cases_eq (suc n) m) [
+  | inl e ↦ ap (λ (x : ℕ). size x w) e
+  | inr ne ↦ let few : m ≤ n = omega (arith, le, ne) in omega (arith, absent few, size_below m w n below few)
+]
+  where
+    absent : m ≤ n → bit w n ≡ 0
+    absent past = elim (cases_eq (bit w n) 1) [
+      | inl i ↦ absurd (omega (arith, past, below n i))
+      | inr none ↦ omega (arith, bit_lt w n)
+    ]
 
 -- a set within another has no more members
 pub size_within : (n a b : ℕ) → ((k : ℕ) → In k a → In k b) → size n a ≤ size n b

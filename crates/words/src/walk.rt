@@ -19,9 +19,7 @@ impl<W: WordSet + Drop> Iterator for Ascending<W> {
     ghost remaining = { λ s. at_most (W.WordSet.word s.rest) };
 
     fn next(&mut self) -> Option<u32> {
-        let Some(lowest) = self.rest.lowest_from(0) else {
-            return None;
-        };
+        let lowest = self.rest.lowest_from(0)?;
         self.rest = self.rest.without(lowest);
         Some(lowest)
     }

@@ -6,7 +6,7 @@ pub returns : goal.returns
 returns g c =
     let set = g.W.WordSet.word c.args.self.now.rest in
     let rest = g.W.WordSet.word c.without-self.result in
-    let low = c.in-Some.ensures.lowest in
-    let less = less_without set rest c.in-Some.lowest low.1 c.without-self.ensures in
+    let low = c.in_ok-lowest.ensures.lowest in
+    let less = less_without set rest c.in_ok-lowest.lowest low.1 c.without-self.ensures in
     let below = λ (j : ℕ). low.2 j (omega arith) in
     search (rules, below)
