@@ -5,9 +5,11 @@
 ghost use Rattle.std.specs.Prelude.{◌≡◌, ℕ, ◌<◌, ◌⊎◌, IfSome, IsTrue, ◌↔◌, ◌≢◌, ◌≤◌};
 ghost use Rattle.words.specs.Sets.{In, Holds, Lowest, size};
 
+pub mod united;
 pub mod walk;
 pub mod widths;
 
+pub use united::union_of;
 pub use walk::{Ascending, members};
 
 pub trait WordSet: Copy {
