@@ -3,7 +3,7 @@ use Rattle.std.specs.Prelude.{◌≡◌, ℕ, ◌+◌, ◌*◌, ◌<◌, ◌≤�
 use Rattle.words.specs.Sets.{In}
 use Rattle.tallies.specs.Machines.{outcome}
 use Rattle.layers.specs.Rows.{Model, Possible, First}
-use Rattle.layers.specs.Scratch.{SameFrom}
+use Rattle.layers.specs.Scratch.{Lives, SameFrom}
 
 -- no palette has a number above 31
 abbrev pub Palettes : List ℕ → Type 0
@@ -16,6 +16,10 @@ WordHas words i v s = (v < 32) × ((32 * i + 32 ≤ length words) × In s (slice
 -- some word of part i holds the state s
 abbrev pub PartHas : List ℕ → ℕ → ℕ → Type 0
 PartHas words i s = (v : ℕ) × WordHas words i v s
+
+-- Where the words hold the live states of a row, P is true of that row: of its model, its palettes and its allowed results.
+abbrev pub WhereLive : List ℕ → (Model → List ℕ → ℕ → Type 0) → Type 0
+WhereLive words P = (m : Model) (palettes : List ℕ) (allowed : ℕ) → Palettes palettes → Lives m palettes allowed words → P m palettes allowed
 
 -- What becomes of a strip and what is answered: the first complete row and its result, or nothing where no row is complete.
 abbrev pub Fills : Model → List ℕ → ℕ → List ℕ → List ℕ → Option ℕ → Type 0

@@ -2,7 +2,7 @@ use Rattle.std.proofs.Common.{◌≡◌, ℕ, ◌<◌, sym, ◌∙◌, subst, ar
 use Rattle.words.specs.Sets.{In, Holds}
 use Rattle.words.proofs.Walking.{gather_none, gather_more, gather_all, joined_one}
 use Rattle.verdicts.specs.Verdicts.{PartHas}
-use Rattle.layers.specs.Rows.{model}
+use Rattle.tallies.specs.Machines.{Machine}
 use Rattle.verdicts.proofs.Telling.{yields_of}
 use Rattle.verdicts.proofs.reading.results_at.Goals as goal
 
@@ -32,4 +32,8 @@ returns g c =
       λ i. let t = (all r).0 i in (t.0, ((states t.0).0 (subst (In t.0) is t.1.0), t.1.1)),
       λ t. (all r).1 (t.0, (subst (In t.0) (sym is) ((states t.0).1 t.1.0), t.1.1)),
     ) in
-    record { words = results; yields = λ p ps allowed small lives last. yields_of (model p k) ps allowed live small lives c.args.part c.loop-s.results last results }
+    record {
+      words = results;
+      yields = λ m ps allowed small lives same last. yields_of m ps allowed live small lives c.args.part c.loop-s.results last
+          (subst (λ (q : Machine). Holds c.loop-s.results (λ r. (s : ℕ) × (PartHas live c.args.part s × (q.result s ≡ r)))) (sym same) results);
+    }

@@ -1,18 +1,11 @@
-use Rattle.std.proofs.Common.{ℕ, ◌+◌, ◌*◌, ◌<◌, get_or, sym, subst, arith, rules}
+use Rattle.std.proofs.Common.{ℕ, ◌+◌, ◌<◌, slice_index, sym, subst, arith, rules}
 use Rattle.std.proofs.lemmas.Bool.{both_ways}
 use Rattle.words.specs.Sets.{In, Holds}
-use Rattle.words.proofs.Membership.{holds_zero}
 use Rattle.words.proofs.Walking.{sift_none, sift_take, sift_skip}
 use Rattle.verdicts.specs.Verdicts.{WordHas}
 use Rattle.verdicts.proofs.Telling.{uses_of}
 use Rattle.verdicts.proofs.reading.used_at.Goals as goal
 use Rattle.verdicts.proofs.reading.used_at.Goals.{then-has_state, else-has_state}
-
-pub returns-then-part-live : goal.returns-then-part-live
-returns-then-part-live c =
-    let live = c.args.live.now in
-    let none : Holds 0 (λ v. (s : ℕ) × WordHas live c.args.part v s) = λ k. (λ i. absurd ((holds_zero k).0 i), λ t. absurd (omega (arith, t.1.1.0))) in
-    record { words = none; uses = λ m ps allowed small lives inside. uses_of m ps allowed live small lives c.args.part 0 inside none }
 
 pub loop-v-init : goal.loop-v-init
 loop-v-init c = sift_none _
@@ -20,7 +13,7 @@ loop-v-init c = sift_none _
 pub loop-v-preserved : goal.loop-v-preserved
 loop-v-preserved c =
     let v = c.loop-v.v in
-    let P : ℕ → Type 0 = λ k. (s : ℕ) × In s (get_or c.args.live.now (32 * c.args.part + k) 0) in
+    let P : ℕ → Type 0 = λ k. (s : ℕ) × In s (slice_index c.words_at-states-items.result.now k) in
     let G : ℕ → Type 0 = λ all. Holds all (λ k. (k < v + 1) × P k) in
     elim c.if-has_state.branch [
       | then-has_state w ↦ subst G (sym w.used-is) (sift_take P 32 v c.loop-v.used w.with-used.result (omega arith)
@@ -32,8 +25,5 @@ loop-v-preserved c =
 pub returns : goal.returns
 returns c =
     let live = c.args.live.now in
-    let used : Holds c.loop-v.used (λ v. (s : ℕ) × WordHas live c.args.part v s) = λ k. (
-      λ i. let t = (c.loop-v.invariant k).0 i in (t.1.0, (omega (arith, t.0), (omega arith, t.1.1))),
-      λ t. (c.loop-v.invariant k).1 (omega (arith, t.1.0), (t.0, t.1.1.1)),
-    ) in
+    let used : Holds c.loop-v.used (λ v. (s : ℕ) × WordHas live c.args.part v s) = search rules in
     record { words = used; uses = λ m ps allowed small lives inside. uses_of m ps allowed live small lives c.args.part c.loop-v.used inside used }
