@@ -3,6 +3,7 @@
 
 mod backward;
 mod forward;
+mod layer;
 pub mod live;
 pub mod shortage;
 mod store;
