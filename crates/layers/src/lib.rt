@@ -8,5 +8,5 @@ pub mod live;
 pub mod shortage;
 mod store;
 
-pub use live::{check_scratch, write_live};
+pub use live::{Problem, check_scratch, write_live};
 pub use shortage::Shortage;
