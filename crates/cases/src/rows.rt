@@ -1,5 +1,5 @@
 // The live states of a small row, and what they tell.
-use layers::{Shortage, write_live};
+use layers::{Problem, Shortage, write_live};
 use rules::FormulaRule;
 use tallies::StretchCounter;
 use verdicts::{is_possible, results_at, used_at, write_first};
@@ -16,10 +16,20 @@ const TALLY: StretchCounter<FormulaRule> = StretchCounter {
     rule: FormulaRule::Equal,
 };
 
+// The row of these palettes with the results that are allowed.
+fn problem(allowed: u64) -> Problem<'static, FormulaRule, StretchCounter<FormulaRule>> {
+    Problem {
+        rule: &RULE,
+        tally: &TALLY,
+        palettes: &PALETTES,
+        allowed,
+    }
+}
+
 #[test]
 fn live_states_stand_at_their_words(rt: HostRuntime) {
     let mut scratch = [7; 98];
-    assert!(rt; write_live(&RULE, &TALLY, &PALETTES, TWO, &mut scratch).is_ok());
+    assert!(rt; write_live(&problem(TWO), &mut scratch).is_ok());
     for (k, word) in scratch.iter().enumerate() {
         let wanted = match k {
             0 | 32 => 0b010,
@@ -34,7 +44,7 @@ fn live_states_stand_at_their_words(rt: HostRuntime) {
 #[test]
 fn live_states_tell_hatchings_and_results(rt: HostRuntime) {
     let mut scratch = [7; 96];
-    assert!(rt; write_live(&RULE, &TALLY, &PALETTES, TWO, &mut scratch).is_ok());
+    assert!(rt; write_live(&problem(TWO), &mut scratch).is_ok());
     assert!(rt; is_possible(&scratch));
     assert!(rt; used_at(&scratch, 1) == 0b11);
     assert!(rt; used_at(&scratch, 2) == 0b10);
@@ -47,7 +57,7 @@ fn live_states_tell_hatchings_and_results(rt: HostRuntime) {
 fn first_row_is_written(rt: HostRuntime) {
     let mut scratch = [7; 96];
     let mut strip = [9; 4];
-    let answer = write_first(&RULE, &TALLY, &PALETTES, TWO, &mut scratch, &mut strip);
+    let answer = write_first(&problem(TWO), &mut scratch, &mut strip);
     assert!(rt; answer == Ok(Some(2)));
     assert!(rt; strip == [0, 0, 1, 9]);
 }
@@ -56,7 +66,7 @@ fn first_row_is_written(rt: HostRuntime) {
 fn no_row_leaves_the_strip(rt: HostRuntime) {
     let mut scratch = [7; 96];
     let mut strip = [9; 4];
-    let answer = write_first(&RULE, &TALLY, &PALETTES, 0b10000, &mut scratch, &mut strip);
+    let answer = write_first(&problem(0b10000), &mut scratch, &mut strip);
     assert!(rt; answer == Ok(None));
     assert!(rt; strip == [9; 4]);
     assert!(rt; scratch == [0; 96]);
@@ -66,16 +76,9 @@ fn no_row_leaves_the_strip(rt: HostRuntime) {
 fn short_scratch_comes_before_short_strip(rt: HostRuntime) {
     let mut scratch = [7; 96];
     let mut strip = [9; 4];
-    let short = write_first(
-        &RULE,
-        &TALLY,
-        &PALETTES,
-        TWO,
-        &mut scratch[..95],
-        &mut strip[..2],
-    );
+    let short = write_first(&problem(TWO), &mut scratch[..95], &mut strip[..2]);
     assert!(rt; short == Err(Shortage::Scratch));
-    let strips = write_first(&RULE, &TALLY, &PALETTES, TWO, &mut scratch, &mut strip[..2]);
+    let strips = write_first(&problem(TWO), &mut scratch, &mut strip[..2]);
     assert!(rt; strips == Err(Shortage::Strip));
     assert!(rt; scratch == [7; 96]);
     assert!(rt; strip == [9; 4]);

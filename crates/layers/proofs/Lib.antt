@@ -1,3 +1,4 @@
+mod Filling
 pub mod Passing
 pub mod Rows
 pub mod Storing

@@ -6,20 +6,17 @@ ghost use Rattle.layers.specs.Layers.{Departs};
 ghost use Rattle.layers.specs.Passes.{Retains};
 ghost use Rattle.layers.specs.Scratch.{SameFrom};
 
+use crate::layer::{layer_of, united};
 use crate::store::{load, store};
 use neighbours::Neighbours;
 use tallies::Tally;
-use words::{WordSet, members};
+use words::WordSet;
 
 // Of the states at v, those that a step to a hatching of `to` takes into the layer.
 fn departures<T: Tally>(tally: &T, states: u64, layer: &[u64; 32], to: u32, v: u32) -> u64
     ensures { Holds result (Departs (T.machine tally.now) states layer.now (λ w. In w to) v) }
 {
-    let mut going = 0u64;
-    for w in members(to) {
-        going = going.union(tally.preimage(states, v, w, layer[w as usize]));
-    }
-    going
+    united(to, |w| tally.preimage(states, v, w, layer[w as usize]))
 }
 
 // One layer backward: of the states of one part, those that can go on into the next.
@@ -33,12 +30,10 @@ fn retain<T: Tally>(
 ) -> [u64; 32]
     ensures { HoldsEach result (λ v s. In v palette × Departs (T.machine tally.now) (slice_index layer v) live (λ w. In w (slice_index neighbours.now.after v) × In w next) v s) }
 {
-    let mut retained = [0; 32];
-    for v in members(palette) {
+    layer_of(palette, |v| {
         let to = neighbours.after[v as usize].intersection(next);
-        retained[v as usize] = departures(tally, layer[v as usize], &live, to, v);
-    }
-    retained
+        departures(tally, layer[v as usize], &live, to, v)
+    })
 }
 
 // The states of the tally whose result is allowed.
@@ -58,11 +53,7 @@ fn ending_states<T: Tally>(tally: &T, allowed: u64) -> u64
 fn last_layer(layer: [u64; 32], palette: u32, ending: u64) -> [u64; 32]
     ensures { HoldsEach result (λ v s. In v palette × (In s (slice_index layer v) × In s ending)) }
 {
-    let mut retained = [0; 32];
-    for v in members(palette) {
-        retained[v as usize] = layer[v as usize].intersection(ending);
-    }
-    retained
+    layer_of(palette, |v| layer[v as usize].intersection(ending))
 }
 
 // The live states of every part, where the words hold the reachable ones.

@@ -6,20 +6,17 @@ ghost use Rattle.layers.specs.Layers.{Arrives};
 ghost use Rattle.layers.specs.Passes.{Reaches};
 ghost use Rattle.layers.specs.Scratch.{SameFrom};
 
+use crate::layer::{layer_of, united};
 use crate::store::{load, store};
 use neighbours::Neighbours;
 use tallies::Tally;
-use words::{WordSet, members};
+use words::WordSet;
 
 // The states in which a row can have w, right after a hatching of `from` in a state of the layer.
 fn arrivals<T: Tally>(tally: &T, layer: &[u64; 32], from: u32, w: u32) -> u64
     ensures { Holds result (Arrives (T.machine tally.now) layer.now (λ v. In v from) w) }
 {
-    let mut states = 0u64;
-    for v in members(from) {
-        states = states.union(tally.image(layer[v as usize], v, w));
-    }
-    states
+    united(from, |v| tally.image(layer[v as usize], v, w))
 }
 
 // One layer forward: from the states of one part to those of the next.
@@ -32,23 +29,17 @@ fn advance<T: Tally>(
 ) -> [u64; 32]
     ensures { HoldsEach result (λ w s. In w next × Arrives (T.machine tally.now) layer (λ v. In v (slice_index neighbours.now.before w) × In v palette) w s) }
 {
-    let mut after = [0; 32];
-    for w in members(next) {
+    layer_of(next, |w| {
         let from = neighbours.before[w as usize].intersection(palette);
-        after[w as usize] = arrivals(tally, &layer, from, w);
-    }
-    after
+        arrivals(tally, &layer, from, w)
+    })
 }
 
 // The layer of the first part.
 fn first_layer<T: Tally>(tally: &T, palette: u32) -> [u64; 32]
     ensures { HoldsEach result (λ v s. In v palette × ((T.machine tally.now).start v ≡ s)) }
 {
-    let mut layer = [0; 32];
-    for v in members(palette) {
-        layer[v as usize] = 0u64.with(tally.start(v));
-    }
-    layer
+    layer_of(palette, |v| 0u64.with(tally.start(v)))
 }
 
 // The reachable states of every part, in the words 32 × i + v.

@@ -3,9 +3,10 @@
 
 mod backward;
 mod forward;
+mod layer;
 pub mod live;
 pub mod shortage;
 mod store;
 
-pub use live::{check_scratch, write_live};
+pub use live::{Problem, check_scratch, write_live};
 pub use shortage::Shortage;

@@ -11,6 +11,15 @@ use neighbours::neighbours_of;
 use rules::NeighbourRule;
 use tallies::Tally;
 
+// What is to be completed: the rule, the tally, a palette for each part, and the results that are allowed.
+#[derive(Drop)]
+pub struct Problem<'a, R, T> {
+    pub rule: &'a R,
+    pub tally: &'a T,
+    pub palettes: &'a [u32],
+    pub allowed: u64,
+}
+
 // Whether the scratch has 32 words for each part.
 pub fn check_scratch(palettes: &[u32], scratch: &[u64]) -> Result<(), Shortage>
     ensures { MatchResult result (λ _. 32 * length palettes.now ≤ length scratch.now) (λ e. (e ≡ Scratch) × (length scratch.now < 32 * length palettes.now)) }
@@ -22,17 +31,17 @@ pub fn check_scratch(palettes: &[u32], scratch: &[u64]) -> Result<(), Shortage>
 }
 
 // The two passes.
-fn pass<R: NeighbourRule, T: Tally>(
-    rule: &R,
-    tally: &T,
-    palettes: &[u32],
-    allowed: u64,
-    scratch: &mut [u64],
-)
-    requires { 32 * length palettes.now ≤ length scratch.old }
-    ensures live { Lives (model (R.pairs rule.now) (T.machine tally.now)) palettes.now allowed scratch.new }
-    ensures rest { SameFrom (32 * length palettes.now) scratch.new scratch.old }
+fn pass<R: NeighbourRule, T: Tally>(problem: &Problem<R, T>, scratch: &mut [u64])
+    requires { 32 * length problem.now.palettes.now ≤ length scratch.old }
+    ensures live { Lives (model (R.pairs problem.now.rule.now) (T.machine problem.now.tally.now)) problem.now.palettes.now problem.now.allowed scratch.new }
+    ensures rest { SameFrom (32 * length problem.now.palettes.now) scratch.new scratch.old }
 {
+    let Problem {
+        rule,
+        tally,
+        palettes,
+        allowed,
+    } = *problem;
     let neighbours = neighbours_of(rule, palettes);
     forward(tally, &neighbours, palettes, scratch);
     backward(tally, &neighbours, palettes, allowed, scratch);
@@ -40,16 +49,13 @@ fn pass<R: NeighbourRule, T: Tally>(
 
 // Writes the live states of the row: word 32 × i + v gets those of part i and hatching v. Later words stay.
 pub fn write_live<R: NeighbourRule, T: Tally>(
-    rule: &R,
-    tally: &T,
-    palettes: &[u32],
-    allowed: u64,
+    problem: &Problem<R, T>,
     scratch: &mut [u64],
 ) -> Result<(), Shortage>
-    ensures live { MatchResult result (λ _. Lives (model (R.pairs rule.now) (T.machine tally.now)) palettes.now allowed scratch.new) (λ e. (e ≡ Scratch) × (length scratch.old < 32 * length palettes.now) × (scratch.new ≡ scratch.old)) }
-    ensures rest { SameFrom (32 * length palettes.now) scratch.new scratch.old }
+    ensures live { MatchResult result (λ _. Lives (model (R.pairs problem.now.rule.now) (T.machine problem.now.tally.now)) problem.now.palettes.now problem.now.allowed scratch.new) (λ e. (e ≡ Scratch) × (length scratch.old < 32 * length problem.now.palettes.now) × (scratch.new ≡ scratch.old)) }
+    ensures rest { SameFrom (32 * length problem.now.palettes.now) scratch.new scratch.old }
 {
-    check_scratch(palettes, scratch)?;
-    pass(rule, tally, palettes, allowed, scratch);
+    check_scratch(problem.palettes, scratch)?;
+    pass(problem, scratch);
     Ok(())
 }

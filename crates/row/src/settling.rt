@@ -10,7 +10,7 @@ ghost use Rattle.verdicts.specs.Verdicts.{Palettes};
 ghost use Rattle.bare.specs.Settling.{Settles, parts_of};
 ghost use Rattle.row.specs.Narrowing.{Narrows};
 
-use layers::write_live;
+use layers::{Problem, write_live};
 use record::{Record, Refusal, Stand};
 use rules::NeighbourRule;
 use tallies::Tally;
@@ -71,7 +71,13 @@ pub fn settle<R: NeighbourRule, T: Tally>(
         return Err(Refusal::NoRow);
     }
     let parts = row.n as usize;
-    let Ok(_) = write_live(rule, tally, &row.palettes[..parts], row.results, scratch) else {
+    let problem = Problem {
+        rule,
+        tally,
+        palettes: &row.palettes[..parts],
+        allowed: row.results,
+    };
+    let Ok(_) = write_live(&problem, scratch) else {
         return Err(Refusal::ShortScratch);
     };
     Ok(strike(tally, row, scratch))

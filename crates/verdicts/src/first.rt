@@ -7,7 +7,7 @@ ghost use Rattle.layers.specs.Scratch.{Lives, SameFrom, Shortens};
 ghost use Rattle.verdicts.specs.Verdicts.{Fills};
 ghost use Rattle.layers.specs.Rows.{model};
 
-use layers::{Shortage, check_scratch, write_live};
+use layers::{Problem, Shortage, check_scratch, write_live};
 use rules::NeighbourRule;
 use tallies::Tally;
 use words::{WordSet, members};
@@ -47,6 +47,7 @@ fn next_hatching<R: NeighbourRule, T: Tally>(
 }
 
 // Writes the row, and gives its result.
+// It takes the palettes by themselves: of a slice in a struct the check does not know that its words are below 2^32.
 fn walk<R: NeighbourRule, T: Tally>(
     rule: &R,
     tally: &T,
@@ -56,7 +57,7 @@ fn walk<R: NeighbourRule, T: Tally>(
 ) -> Option<u32>
     requires words { 32 * length palettes.now ≤ length live.now }
     requires bytes { length palettes.now ≤ length strip.old }
-    ensures { (allowed : ℕ) → Lives (model (R.pairs rule.now) (T.machine tally.now)) palettes.now allowed live.now → Fills (model (R.pairs rule.now) (T.machine tally.now)) palettes.now allowed strip.old strip.new result }
+    ensures { let m = model (R.pairs rule.now) (T.machine tally.now) in ((allowed : ℕ) → Lives m palettes.now allowed live.now → Fills m palettes.now allowed strip.old strip.new result) }
 {
     let [palette, ..] = palettes else {
         return None;
@@ -81,20 +82,23 @@ fn walk<R: NeighbourRule, T: Tally>(
 // Writes the first complete row into the strip, one byte a part, and gives its result, or nothing where no row is complete.
 // The scratch gets the live states. Later words and bytes stay, and a refusal leaves everything.
 pub fn write_first<R: NeighbourRule, T: Tally>(
-    rule: &R,
-    tally: &T,
-    palettes: &[u32],
-    allowed: u64,
+    problem: &Problem<R, T>,
     scratch: &mut [u64],
     strip: &mut [u8],
 ) -> Result<Option<u32>, Shortage>
-    ensures row { MatchResult result (λ o. Lives (model (R.pairs rule.now) (T.machine tally.now)) palettes.now allowed scratch.new × Fills (model (R.pairs rule.now) (T.machine tally.now)) palettes.now allowed strip.old strip.new o) (λ e. Shortens (length palettes.now) (length scratch.old) (length strip.old) e × (scratch.new ≡ scratch.old) × (strip.new ≡ strip.old)) }
-    ensures rest { SameFrom (32 * length palettes.now) scratch.new scratch.old }
+    ensures row { let m = model (R.pairs problem.now.rule.now) (T.machine problem.now.tally.now) in let ps = problem.now.palettes.now in let allowed = problem.now.allowed in MatchResult result (λ o. Lives m ps allowed scratch.new × Fills m ps allowed strip.old strip.new o) (λ e. Shortens (length ps) (length scratch.old) (length strip.old) e × (scratch.new ≡ scratch.old) × (strip.new ≡ strip.old)) }
+    ensures rest { SameFrom (32 * length problem.now.palettes.now) scratch.new scratch.old }
 {
+    let Problem {
+        rule,
+        tally,
+        palettes,
+        ..
+    } = *problem;
     check_scratch(palettes, scratch)?;
     if strip.len() < palettes.len() {
         return Err(Shortage::Strip);
     }
-    write_live(rule, tally, palettes, allowed, scratch)?;
+    write_live(problem, scratch)?;
     Ok(walk(rule, tally, palettes, scratch, strip))
 }

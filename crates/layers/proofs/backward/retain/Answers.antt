@@ -1,13 +1,6 @@
 use Rattle.std.proofs.Common.{rules}
-use Rattle.words.proofs.Walking.{lay_none, lay_more}
+use Rattle.layers.proofs.Filling.{holds_laid}
 use Rattle.layers.proofs.backward.retain.Goals as goal
 
-pub loop-v-init : goal.loop-v-init
-loop-v-init g c = (search rules, lay_none _ c.args.palette 32 c.into_iter-v-iterator.result.rest (search rules))
-
-pub loop-v-preserved : goal.loop-v-preserved
-loop-v-preserved g c = (
-  search rules,
-  lay_more _ c.args.palette 32 c.loop-v.v-iterator.rest c.next.new.self.rest c.in-Some.v c.departures.result c.loop-v.retained
-      c.in-Some.ensures.steps (search rules) (search rules) c.loop-v.invariant.1,
-)
+pub returns : goal.returns
+returns g c = holds_laid _ c.args.palette _ (λ v x i given. search rules) _ c.layer_of.ensures

@@ -7,10 +7,11 @@ use Rattle.layers.proofs.live.pass.Goals as goal
 
 pub returns : goal.returns
 returns g c =
-    let p = g.R.NeighbourRule.pairs c.args.rule.now in
-    let m : Model = model p (g.T.Tally.machine c.args.tally.now) in
-    let ps = c.args.palettes.now in
-    let allowed = c.args.allowed in
+    let problem = c.args.problem.now in
+    let p = g.R.NeighbourRule.pairs problem.rule.now in
+    let m : Model = model p (g.T.Tally.machine problem.tally.now) in
+    let ps = problem.palettes.now in
+    let allowed = problem.allowed in
     let reached = c.forward.ensures.reached p c.neighbours_of-neighbours.ensures.before in
     let through = c.backward.ensures.through p c.neighbours_of-neighbours.ensures.after reached in
     record {

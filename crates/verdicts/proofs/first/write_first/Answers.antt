@@ -4,5 +4,5 @@ use Rattle.verdicts.proofs.first.write_first.Goals as goal
 pub returns : goal.returns
 returns g c =
     let live = c.in_ok-write_live.ensures.live in
-    let fills = c.walk.ensures c.args.allowed live in
+    let fills = c.walk.ensures c.args.problem.now.allowed live in
     search rules

@@ -3,7 +3,7 @@ use mathlib.Core.Bool.{true}
 use lib.ListN.{length}
 use Rattle.words.specs.Sets.{In}
 use Rattle.words.proofs.Walking.{Laying}
-use Rattle.neighbours.proofs.table.table_after.Given as goal
+use Rattle.neighbours.proofs.table.table_of.Given as goal
 
 abbrev pub invariant-loop-v : goal.invariant-loop-v
 invariant-loop-v g l =

@@ -1,7 +1,7 @@
 use mathlib.Core.Path.{◌≡◌}
 use mathlib.Core.Bool.{true}
 use Rattle.words.proofs.Walking.{Gathering}
-use Rattle.neighbours.proofs.table.row_after.Given as goal
+use Rattle.neighbours.proofs.table.row_of.Given as goal
 
 abbrev pub invariant-loop-w : goal.invariant-loop-w
 invariant-loop-w g l =

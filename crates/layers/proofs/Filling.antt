@@ -1,0 +1,110 @@
+-- The two loops over the members of a set, and what they make where what is given for each member is known. Assumes nothing.
+use Rattle.std.proofs.Common.{◌≡◌, ℕ, zero, suc, ◌<◌, ◌⊎◌, List, length, get_or, set, replicate, Some, sym, ◌∙◌, refl, subst, inl, inr, arith}
+use Rattle.std.proofs.lemmas.List.{length-set, get_or-set_same, get_or-set_other}
+use Rattle.std.proofs.lemmas.Bool.{cases_eq}
+use Rattle.words.specs.Sets.{bit, In, Holds, HoldsEach, Takes}
+use Rattle.words.proofs.Membership.{holds_zero}
+use Rattle.words.proofs.Walking.{Within}
+use Rattle.layers.specs.Layers.{IsLaid, IsUnited}
+
+-- what the loop keeps true of a layer: the members that it has left behind have what was given for them, the others no state
+pub record Filling (given : ℕ → ℕ → Type 0) (whole rest : ℕ) (layer : List ℕ) : Type 0 where
+  pub within : Within rest whole
+  pub size : length layer ≡ 32
+  pub laid : (v : ℕ) → In v whole → (In v rest → ⊥) → given v (get_or layer v 0)
+  pub empty : (v : ℕ) → (In v whole → In v rest) → get_or layer v 0 ≡ 0
+
+-- and of a set that unites what was given: it has the states of such a layer
+abbrev pub Uniting : (ℕ → ℕ → Type 0) → ℕ → ℕ → ℕ → Type 0
+Uniting given whole rest all = (layer : List ℕ) × (Filling given whole rest layer × Holds all (λ s. (v : ℕ) × In s (get_or layer v 0)))
+
+zeros : (n v : ℕ) → get_or (replicate {A = ℕ} n 0) v 0 ≡ 0
+zeros zero v = refl
+zeros (suc n) zero = refl
+zeros (suc n) (suc v) = zeros n v
+
+module _ (given : ℕ → ℕ → Type 0) (whole : ℕ) where
+  pub fill_none : (rest : ℕ) → rest ≡ whole → Filling given whole rest (replicate 32 0)
+  fill_none rest e = record {
+    within = λ v i. subst (In v) e i;
+    size = refl;
+    laid = λ v i gone. absurd (gone (subst (In v) (sym e) i));
+    empty = λ v h. zeros 32 v;
+  }
+
+  -- the member s gets the set x
+  pub fill_more : (rest less s x : ℕ) (layer : List ℕ) → Takes 32 rest (Some s) less → given s x
+      → Filling given whole rest layer → Filling given whole less (set layer s x)
+  fill_more rest less s x layer taken gives h = record {
+    within = λ v i. h.within v ((taken.3 v).0 i).0;
+    size = length-set layer s x ∙ h.size;
+    laid = λ v i gone. elim (cases_eq v s) [
+      | inl e ↦ rw (e, get_or-set_same layer s x 0 fits) gives
+      | inr ne ↦ rw (get_or-set_other layer s v x 0 ne) (h.laid v i (λ j. gone ((taken.3 v).1 (j, ne))))
+    ];
+    empty = λ v kept. elim (cases_eq v s) [
+      | inl e ↦ absurd (((taken.3 v).0 (kept (h.within v (subst (λ (q : ℕ). In q rest) (sym e) taken.1)))).1 e)
+      | inr ne ↦ get_or-set_other layer s v x 0 ne ∙ h.empty v (λ i. ((taken.3 v).0 (kept i)).0)
+    ];
+  }
+    where
+      fits : s < length layer
+      fits = omega (arith, taken.0, h.size)
+
+  pub fill_all : (rest : ℕ) (layer : List ℕ) → ((v : ℕ) → In v rest → ⊥) → Filling given whole rest layer → IsLaid given whole layer
+  fill_all rest layer done h = record { size = h.size; each = λ v i. h.laid v i (done v); others = λ v no. h.empty v (λ i. absurd (no i)) }
+
+  pub unite_none : (rest : ℕ) → rest ≡ whole → Uniting given whole rest 0
+  unite_none rest e = (
+    replicate 32 0,
+    (
+      fill_none rest e,
+      λ s. (λ i. absurd ((holds_zero s).0 i), λ t. absurd ((holds_zero s).0 (subst (In s) (zeros 32 t.0) t.1))),
+    ),
+  )
+
+  -- the member m gives what r has more than `all`
+  pub unite_more : (rest less m x all r : ℕ) → Takes 32 rest (Some m) less → given m x → Holds r (λ s. In s all ⊎ In s x)
+      → Uniting given whole rest all → Uniting given whole less r
+  unite_more rest less m x all r taken gives joined (layer, (h, holds)) =
+      (set layer m x, (fill_more rest less m x layer taken gives h, λ s. (λ i. into s ((joined s).0 i), λ t. (joined s).1 (out s t.0 t.1))))
+    where
+      here : get_or (set layer m x) m 0 ≡ x
+      here = get_or-set_same layer m x 0 (omega (arith, taken.0, h.size))
+
+      into : (s : ℕ) → In s all ⊎ In s x → (v : ℕ) × In s (get_or (set layer m x) v 0)
+      into s (inl i) = old ((holds s).0 i)
+        where
+          old : (v : ℕ) × In s (get_or layer v 0) → (v : ℕ) × In s (get_or (set layer m x) v 0)
+          old (v, j) = elim (cases_eq v m) [
+            | inl e ↦ absurd ((holds_zero s).0 (subst (In s) (h.empty v (λ _. subst (λ (q : ℕ). In q rest) (sym e) taken.1)) j))
+            | inr ne ↦ (v, subst (In s) (sym (get_or-set_other layer m v x 0 ne)) j)
+          ]
+      into s (inr i) = (m, subst (In s) (sym here) i)
+
+      out : (s v : ℕ) → In s (get_or (set layer m x) v 0) → In s all ⊎ In s x
+      out s v i = elim (cases_eq v m) [
+        | inl e ↦ inr (subst (In s) here (subst (λ (q : ℕ). In s (get_or (set layer m x) q 0)) e i))
+        | inr ne ↦ inl ((holds s).1 (v, subst (In s) (get_or-set_other layer m v x 0 ne) i))
+      ]
+
+  pub unite_all : (rest all : ℕ) → ((v : ℕ) → In v rest → ⊥) → Uniting given whole rest all → IsUnited given whole all
+  unite_all rest all done (layer, (h, holds)) = (layer, (fill_all rest layer done h, holds))
+
+  -- ---- where P says which states are given
+
+  module _ (P : ℕ → ℕ → Type 0) (means : (v x : ℕ) → In v whole → given v x → Holds x (P v)) where
+    pub holds_laid : (layer : List ℕ) → IsLaid given whole layer → HoldsEach layer (λ v s. In v whole × P v s)
+    holds_laid layer h v s = (
+      λ i. elim (cases_eq (bit whole v) 1) [
+        | inl there ↦ (there, (means v (get_or layer v 0) there (h.each v there) s).0 i)
+        | inr not_there ↦ absurd ((holds_zero s).0 (subst (In s) (h.others v not_there) i))
+      ],
+      λ t. (means v (get_or layer v 0) t.0 (h.each v t.0) s).1 t.1,
+    )
+
+    pub holds_united : (all : ℕ) → IsUnited given whole all → Holds all (λ s. (v : ℕ) × (In v whole × P v s))
+    holds_united all (layer, (h, holds)) s = (
+      λ i. let t = (holds s).0 i in (t.0, (holds_laid layer h t.0 s).0 t.1),
+      λ t. (holds s).1 (t.0, (holds_laid layer h t.0 s).1 t.1),
+    )

@@ -1,0 +1,12 @@
+use Rattle.std.proofs.Common.{rules}
+use Rattle.layers.proofs.Filling.{fill_none, fill_more, fill_all}
+use Rattle.layers.proofs.layer.layer_of.Goals as goal
+
+pub loop-v-init : goal.loop-v-init
+loop-v-init g c = fill_none _ c.args.palette _ (search rules)
+
+pub loop-v-preserved : goal.loop-v-preserved
+loop-v-preserved g c = search (rules, fill_more)
+
+pub returns : goal.returns
+returns g c = search (rules, fill_all)

@@ -1,0 +1,29 @@
+// What is made of the members of a set: a layer, or one set of states.
+ghost use Rattle.std.specs.Prelude.{ℕ, ◌<◌};
+ghost use Rattle.layers.specs.Layers.{IsLaid, IsUnited};
+
+use words::{WordSet, members};
+
+// The layer that has at each hatching of the palette the states that are given for it, and none elsewhere.
+pub(crate) fn layer_of<F: Fn(u32) -> u64>(palette: u32, states: F) -> [u64; 32]
+    requires { (v : ℕ) → v < 32 → F.pre states v }
+    ensures { IsLaid (F.post states) palette result }
+{
+    let mut layer = [0; 32];
+    for v in members(palette) {
+        layer[v as usize] = states(v);
+    }
+    layer
+}
+
+// The states that are given for some member of the set.
+pub(crate) fn united<F: Fn(u32) -> u64>(set: u32, states: F) -> u64
+    requires { (v : ℕ) → v < 32 → F.pre states v }
+    ensures { IsUnited (F.post states) set result }
+{
+    let mut all = 0u64;
+    for v in members(set) {
+        all = all.union(states(v));
+    }
+    all
+}
