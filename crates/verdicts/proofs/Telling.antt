@@ -1,12 +1,17 @@
 -- What the live states of a row tell of its complete rows. Assumes nothing.
-use Rattle.std.proofs.Common.{◌≡◌, ℕ, suc, ◌+◌, ◌<◌, Bool, List, length, get_or, take, Decides, sym, refl, ap, ◌∙◌, subst, arith}
+use Rattle.std.proofs.Common.{◌≡◌, ℕ, suc, ◌+◌, ◌^◌, ◌<◌, Bool, List, length, get_or, take, Decides, sym, refl, ap, ◌∙◌, subst, arith}
 use Rattle.std.proofs.lemmas.List.{take_all}
 use Rattle.words.specs.Sets.{In, Holds}
+use Rattle.words.proofs.Bits.{in_below}
 use Rattle.words.proofs.Walking.{holds_like}
 use Rattle.tallies.specs.Machines.{state}
 use Rattle.layers.specs.Scratch.{Lives}
 use Rattle.verdicts.specs.Verdicts.{Palettes, PartHas, WordHas}
 use Rattle.layers.specs.Rows.{Model, Complete, Live, Possible, Uses, Yields}
+
+-- words of 32 have no number above 31
+pub palettes_of : (ps : List ℕ) → ((i : ℕ) → get_or ps i 0 < 2 ^ 32) → Palettes ps
+palettes_of ps fit i v = in_below 32 (get_or ps i 0) v (fit i)
 
 module _ (m : Model) (ps : List ℕ) (allowed : ℕ) (words : List ℕ) (small : Palettes ps) (lives : Lives m ps allowed words) where
   -- a word has a state exactly where it is live

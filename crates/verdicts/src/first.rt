@@ -62,16 +62,11 @@ fn walk<R: NeighbourRule, T: Tally>(
     let [palette, ..] = palettes else {
         return None;
     };
-    let Some(first) = first_hatching(tally, *palette, live) else {
-        return None;
-    };
-    let mut v = first;
+    let mut v = first_hatching(tally, *palette, live)?;
     let mut s = tally.start(v);
     strip[0] = v as u8;
     for i in 1..palettes.len() {
-        let Some(w) = next_hatching(rule, tally, palettes[i], live, i, v, s) else {
-            return None;
-        };
+        let w = next_hatching(rule, tally, palettes[i], live, i, v, s)?;
         s = tally.step(s, v, w);
         v = w;
         strip[i] = v as u8;

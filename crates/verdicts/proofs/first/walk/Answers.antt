@@ -1,21 +1,26 @@
-use Rattle.std.proofs.Common.{◌≡◌, ℕ, ◌+◌, ◌-◌, ◌<◌, length, get_or, set, sym, refl, ◌∙◌, subst, subst₂, arith, rules}
+use Rattle.std.proofs.Common.{◌≡◌, ℕ, ◌+◌, ◌-◌, ◌<◌, length, get_or, set, None, sym, refl, ◌∙◌, subst, subst₂, arith, rules}
 use Rattle.std.proofs.lemmas.List.{get_or-set_other}
 use Rattle.words.proofs.Bits.{in_below}
 use Rattle.layers.specs.Rows.{Model, model}
+use Rattle.verdicts.specs.Verdicts.{Fills}
+use Rattle.verdicts.proofs.Telling.{palettes_of}
 use Rattle.verdicts.proofs.Walks.{Begun, first_of, walk_first, walk_next, walk_none, walk_on}
 use Rattle.verdicts.proofs.first.walk.Goals as goal
 
-pub returns-in_default-first_hatching : goal.returns-in_default-first_hatching
-returns-in_default-first_hatching g c allowed lives =
+pub returns-in_err-v : goal.returns-in_err-v
+returns-in_err-v g c allowed lives =
     let m : Model = model (g.R.NeighbourRule.pairs c.args.rule.now) (g.T.Tally.machine c.args.tally.now) in
     let ps = c.args.palettes.now in
+    let strip = c.args.strip.now in
     let some : 0 < length ps = search rules in
-    (walk_none m ps allowed c.args.live.now (λ j u i. in_below 32 (get_or ps j 0) u (c.type_inv.palettes j).fits i) lives some c.in_default-first_hatching.ensures, search rules)
+    let none : c.from_residual.result ≡ None = search rules in
+    subst (Fills m ps allowed strip strip) (sym none)
+    (walk_none m ps allowed c.args.live.now (palettes_of ps (λ j. (c.type_inv.palettes j).fits)) lives some c.in_err-v.ensures, refl)
 
 pub overflow_cast-strip : goal.overflow_cast-strip
 overflow_cast-strip g c =
-    let small : c.in-Some.first < 32 =
-    in_below 32 (get_or c.args.palettes.now 0 0) c.in-Some.first (c.type_inv.palettes 0).fits c.in-Some.ensures.1.0 in
+    let small : c.in_ok-v.v < 32 =
+    in_below 32 (get_or c.args.palettes.now 0 0) c.in_ok-v.v (c.type_inv.palettes 0).fits c.in_ok-v.ensures.1.0 in
     search rules
 
 pub loop-i-init : goal.loop-i-init
@@ -24,20 +29,20 @@ loop-i-init g c = (
       let m : Model = model (g.R.NeighbourRule.pairs c.args.rule.now) (g.T.Tally.machine c.args.tally.now) in
       let ps = c.args.palettes.now in
       let strip = c.args.strip.now in
-      let v = c.in-Some.first in
+      let v = c.in_ok-v.v in
       let some : 0 < length ps = search rules in
       let is : m.machine.start v ≡ c.start-s.result = search rules in
       subst (Begun m ps allowed (set strip 0 v) 0 v) is
-      (walk_first m ps allowed c.args.live.now (λ j u i. in_below 32 (get_or ps j 0) u (c.type_inv.palettes j).fits i) lives strip v c.requires.bytes some c.in-Some.ensures),
+      (walk_first m ps allowed c.args.live.now (palettes_of ps (λ j. (c.type_inv.palettes j).fits)) lives strip v c.requires.bytes some c.in_ok-v.ensures),
   λ k h. refl,
 )
 
-pub returns-in_default-next_hatching : goal.returns-in_default-next_hatching
-returns-in_default-next_hatching g c allowed lives =
+pub returns-in_err-w : goal.returns-in_err-w
+returns-in_err-w g c allowed lives =
     let m : Model = model (g.R.NeighbourRule.pairs c.args.rule.now) (g.T.Tally.machine c.args.tally.now) in
     let ps = c.args.palettes.now in
-    absurd (walk_on m ps allowed c.args.live.now (λ j u i. in_below 32 (get_or ps j 0) u (c.type_inv.palettes j).fits i) lives c.loop-i.strip (c.loop-i.i - 1) c.loop-i.i c.loop-i.v c.loop-i.s
-    (omega arith) (omega arith) (c.loop-i.invariant.0 allowed lives) c.in_default-next_hatching.ensures)
+    absurd (walk_on m ps allowed c.args.live.now (palettes_of ps (λ j. (c.type_inv.palettes j).fits)) lives c.loop-i.strip (c.loop-i.i - 1) c.loop-i.i c.loop-i.v c.loop-i.s
+    (omega arith) (omega arith) (c.loop-i.invariant.0 allowed lives) c.in_err-w.ensures)
 
 pub loop-i-preserved : goal.loop-i-preserved
 loop-i-preserved g c = (
@@ -46,13 +51,13 @@ loop-i-preserved g c = (
       let ps = c.args.palettes.now in
       let strip = c.loop-i.strip in
       let i = c.loop-i.i in
-      let w = c.in-Some-next_hatching.w in
+      let w = c.in_ok-w.w in
       let e : i ≡ i + 1 - 1 = omega arith in
       let is : m.machine.step c.loop-i.s c.loop-i.v w ≡ c.step-s.result = search rules in
       subst₂ (λ (q s : ℕ). Begun m ps allowed (set strip i w) q w s) e is
-      (walk_next m ps allowed c.args.live.now (λ j u i. in_below 32 (get_or ps j 0) u (c.type_inv.palettes j).fits i) lives strip (i - 1) i c.loop-i.v c.loop-i.s w (omega arith) (omega arith)
-      (c.loop-i.invariant.0 allowed lives) c.in-Some-next_hatching.ensures),
-  λ k h. get_or-set_other c.loop-i.strip c.loop-i.i k c.in-Some-next_hatching.w 0 (omega arith) ∙ c.loop-i.invariant.1 k (omega arith),
+      (walk_next m ps allowed c.args.live.now (palettes_of ps (λ j. (c.type_inv.palettes j).fits)) lives strip (i - 1) i c.loop-i.v c.loop-i.s w (omega arith) (omega arith)
+      (c.loop-i.invariant.0 allowed lives) c.in_ok-w.ensures),
+  λ k h. get_or-set_other c.loop-i.strip c.loop-i.i k c.in_ok-w.w 0 (omega arith) ∙ c.loop-i.invariant.1 k (omega arith),
 )
 
 pub returns : goal.returns
@@ -63,5 +68,5 @@ returns g c allowed lives =
     let first = first_of m ps allowed c.loop-i.strip (c.loop-i.i - 1) c.loop-i.v c.loop-i.s (omega arith) (c.loop-i.invariant.0 allowed lives) in (
       first.0,
       c.result.ensures ∙ sym first.1,
-      λ k h. c.loop-i.invariant.1 k (omega arith) ∙ get_or-set_other c.args.strip.now 0 k c.in-Some.first 0 (omega arith),
+      λ k h. c.loop-i.invariant.1 k (omega arith) ∙ get_or-set_other c.args.strip.now 0 k c.in_ok-v.v 0 (omega arith),
     )
