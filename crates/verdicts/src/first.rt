@@ -4,7 +4,7 @@ ghost use Rattle.std.specs.Prelude.{◌≡◌, ℕ, ◌+◌, ◌*◌, ◌<◌, �
 ghost use Rattle.words.specs.Sets.{In, Lowest};
 ghost use Rattle.layers.specs.declared.shortage.Shortage.{Shortage};
 ghost use Rattle.layers.specs.Scratch.{Lives, SameFrom, Shortens};
-ghost use Rattle.verdicts.specs.Verdicts.{Fills};
+ghost use Rattle.verdicts.specs.Verdicts.{Fills, IsLowest};
 ghost use Rattle.layers.specs.Rows.{model};
 
 use layers::{Problem, Shortage, check_scratch, write_live};
@@ -12,17 +12,25 @@ use rules::NeighbourRule;
 use tallies::Tally;
 use words::{WordSet, members};
 
+// The lowest hatching of the palette that passes the test.
+fn lowest<F: Fn(u32) -> bool>(palette: u32, test: F) -> Option<u32>
+    requires { (v : ℕ) → v < 32 → F.pre test v }
+    ensures { IsLowest (F.post test) palette result }
+{
+    for v in members(palette) {
+        if test(v) {
+            return Some(v);
+        }
+    }
+    None
+}
+
 // The lowest hatching of the palette that a complete row begins with.
 fn first_hatching<T: Tally>(tally: &T, palette: u32, live: &[u64]) -> Option<u32>
     requires { 32 ≤ length live.now }
     ensures { Lowest (λ v. In v palette × In ((T.machine tally.now).start v) (slice_index live.now v)) 0 result }
 {
-    for v in members(palette) {
-        if live[v as usize].contains(tally.start(v)) {
-            return Some(v);
-        }
-    }
-    None
+    lowest(palette, |v| live[v as usize].contains(tally.start(v)))
 }
 
 // The lowest hatching of the palette with which a complete row goes on at part i, after v and the state s.
@@ -38,12 +46,9 @@ fn next_hatching<R: NeighbourRule, T: Tally>(
     requires { 32 * i + 32 ≤ length live.now }
     ensures { Lowest (λ w. In w palette × ((R.pairs rule.now v w ≡ true) × In ((T.machine tally.now).step s v w) (slice_index live.now (32 * i + w)))) 0 result }
 {
-    for w in members(palette) {
-        if rule.allows(v, w) && live[32 * i + w as usize].contains(tally.step(s, v, w)) {
-            return Some(w);
-        }
-    }
-    None
+    lowest(palette, |w| {
+        rule.allows(v, w) && live[32 * i + w as usize].contains(tally.step(s, v, w))
+    })
 }
 
 // Writes the row, and gives its result.

@@ -148,8 +148,8 @@ module _ (F : ℕ → ℕ → Type 0) (whole : ℕ) where
       → (p : ℕ) → Holds (get_or sets p 0) (λ k. In p whole × F p k)
   lay_all rest sets done (within, h) p k = (λ i. let t = (h p k).0 i in (t.0, t.1.1), λ t. (h p k).1 (t.0, (done p, t.1)))
 
--- ---- a loop that looks for the lowest member of which P is true
+-- ---- a loop that looks for a member
 
--- what the loop keeps true: P is true of no member that it has left behind
+-- what the loop keeps true: Q is true of each member that it has left behind
 abbrev pub Passing : (ℕ → Type 0) → ℕ → ℕ → Type 0
-Passing P whole rest = Within rest whole × ((p : ℕ) → In p whole → (In p rest → ⊥) → P p → ⊥)
+Passing Q whole rest = Within rest whole × ((p : ℕ) → In p whole → (In p rest → ⊥) → Q p)
