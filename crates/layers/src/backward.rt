@@ -73,15 +73,12 @@ pub(crate) fn backward<T: Tally>(
     };
     let last = palettes.len() - 1;
     let ending = ending_states(tally, allowed);
-    store(
-        scratch,
-        last,
-        last_layer(load(scratch, last), *palette, ending),
-    );
+    let mut live = last_layer(load(scratch, last), *palette, ending);
+    store(scratch, last, live);
     for i in (0..last).rev() {
         let layer = load(scratch, i);
-        let live = load(scratch, i + 1);
         let retained = retain(tally, neighbours, layer, palettes[i], live, palettes[i + 1]);
         store(scratch, i, retained);
+        live = retained;
     }
 }

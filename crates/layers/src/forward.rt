@@ -7,7 +7,7 @@ ghost use Rattle.layers.specs.Passes.{Reaches};
 ghost use Rattle.layers.specs.Scratch.{SameFrom};
 
 use crate::layer::{layer_of, united};
-use crate::store::{load, store};
+use crate::store::store;
 use neighbours::Neighbours;
 use tallies::Tally;
 use words::WordSet;
@@ -56,10 +56,13 @@ pub(crate) fn forward<T: Tally>(
     let [first, ..] = palettes else {
         return;
     };
-    store(scratch, 0, first_layer(tally, *first));
+    let mut layer = first_layer(tally, *first);
+    store(scratch, 0, layer);
+    // By index, since i also says where the words are; over windows the invariant would have to carry that iterator's state.
     for i in 1..palettes.len() {
-        let layer = load(scratch, i - 1);
+        // A name of its own: a call's result that is laid straight in `layer` is not covered.
         let next = advance(tally, neighbours, layer, palettes[i - 1], palettes[i]);
         store(scratch, i, next);
+        layer = next;
     }
 }
