@@ -4,7 +4,7 @@ ghost use Rattle.std.specs.Prelude.{◌≡◌, ◌*◌, ◌≤◌, length, slice
 ghost use Rattle.words.specs.Sets.{In, Holds, HoldsEach};
 ghost use Rattle.layers.specs.Layers.{Arrives};
 ghost use Rattle.layers.specs.Passes.{Reaches};
-ghost use Rattle.layers.specs.Scratch.{SameFrom};
+ghost use Rattle.layers.specs.Scratch.{HasRoom, SameFrom};
 
 use crate::layer::{layer_of, united};
 use crate::store::store;
@@ -49,7 +49,7 @@ pub(crate) fn forward<T: Tally>(
     palettes: &[u32],
     scratch: &mut [u64],
 )
-    requires room { 32 * length palettes.now ≤ length scratch.old }
+    requires room { HasRoom (length palettes.now) scratch.old }
     ensures reached { Reaches (T.machine tally.now) neighbours.now.before palettes.now scratch.new }
     ensures rest { SameFrom (32 * length palettes.now) scratch.new scratch.old }
 {
