@@ -54,10 +54,6 @@ module _ (m : Model) (ps : List ℕ) where
       e (reach_step i layer next before (omega arith) table reached)
 
   module _ (allowed : ℕ) where
-    -- what both passes find is reachable
-    pub through_small : ((j : ℕ) → get_or ps j 0 < 2 ^ 32) → (d i v s : ℕ) → Through m ps allowed d i v s → v < 32
-    through_small small d i v s t = reachable_small small i v s t.0
-
     -- the last layer
     pub through_last : (i n ending : ℕ) (layer kept : List ℕ) → HoldsEach layer (Reachable m ps i) → ((v s : ℕ) → Reachable m ps i v s → s < n)
         → Holds ending (λ s. (s < n) × In (m.machine.result s) allowed)

@@ -5,9 +5,13 @@ use Rattle.layers.specs.declared.shortage.Shortage.{Shortage}
 use Rattle.layers.specs.declared.shortage.Shortage.TheVariants.{Scratch, Strip}
 use Rattle.layers.specs.Rows.{Model, Live}
 
--- There are 32 words for each part, and word 32 × i + v holds exactly the live states of part i and hatching v.
+-- there are 32 words for each of so many parts
+abbrev pub HasRoom : ℕ → List ℕ → Type 0
+HasRoom parts words = 32 * parts ≤ length words
+
+-- There is room for each part, and word 32 × i + v holds exactly the live states of part i and hatching v.
 pub record Lives (m : Model) (palettes : List ℕ) (allowed : ℕ) (words : List ℕ) : Type 0 where
-  pub room : 32 * length palettes ≤ length words
+  pub room : HasRoom (length palettes) words
   pub live : (i : ℕ) → i < length palettes → (v : ℕ) → v < 32 → Holds (slice_index words (32 * i + v)) (Live m palettes allowed i v)
 
 -- what stands in one list from n on stands there in the other

@@ -4,7 +4,7 @@ ghost use Rattle.std.specs.Prelude.{◌*◌, ◌<◌, ◌≤◌, length, slice_i
 ghost use Rattle.words.specs.Sets.{In, Holds, HoldsEach};
 ghost use Rattle.layers.specs.Layers.{Departs};
 ghost use Rattle.layers.specs.Passes.{Retains};
-ghost use Rattle.layers.specs.Scratch.{SameFrom};
+ghost use Rattle.layers.specs.Scratch.{HasRoom, SameFrom};
 
 use crate::layer::{layer_of, united};
 use crate::store::{load, store};
@@ -64,7 +64,7 @@ pub(crate) fn backward<T: Tally>(
     allowed: u64,
     scratch: &mut [u64],
 )
-    requires { 32 * length palettes.now ≤ length scratch.old }
+    requires { HasRoom (length palettes.now) scratch.old }
     ensures through { Retains (T.machine tally.now) neighbours.now.after palettes.now allowed scratch.old scratch.new }
     ensures rest { SameFrom (32 * length palettes.now) scratch.new scratch.old }
 {
@@ -73,15 +73,12 @@ pub(crate) fn backward<T: Tally>(
     };
     let last = palettes.len() - 1;
     let ending = ending_states(tally, allowed);
-    store(
-        scratch,
-        last,
-        last_layer(load(scratch, last), *palette, ending),
-    );
+    let mut live = last_layer(load(scratch, last), *palette, ending);
+    store(scratch, last, live);
     for i in (0..last).rev() {
         let layer = load(scratch, i);
-        let live = load(scratch, i + 1);
         let retained = retain(tally, neighbours, layer, palettes[i], live, palettes[i + 1]);
         store(scratch, i, retained);
+        live = retained;
     }
 }

@@ -4,10 +4,10 @@ ghost use Rattle.std.specs.Prelude.{◌≡◌, ◌*◌, ◌≤◌, length, slice
 ghost use Rattle.words.specs.Sets.{In, Holds, HoldsEach};
 ghost use Rattle.layers.specs.Layers.{Arrives};
 ghost use Rattle.layers.specs.Passes.{Reaches};
-ghost use Rattle.layers.specs.Scratch.{SameFrom};
+ghost use Rattle.layers.specs.Scratch.{HasRoom, SameFrom};
 
 use crate::layer::{layer_of, united};
-use crate::store::{load, store};
+use crate::store::store;
 use neighbours::Neighbours;
 use tallies::Tally;
 use words::WordSet;
@@ -49,17 +49,20 @@ pub(crate) fn forward<T: Tally>(
     palettes: &[u32],
     scratch: &mut [u64],
 )
-    requires room { 32 * length palettes.now ≤ length scratch.old }
+    requires room { HasRoom (length palettes.now) scratch.old }
     ensures reached { Reaches (T.machine tally.now) neighbours.now.before palettes.now scratch.new }
     ensures rest { SameFrom (32 * length palettes.now) scratch.new scratch.old }
 {
     let [first, ..] = palettes else {
         return;
     };
-    store(scratch, 0, first_layer(tally, *first));
+    let mut layer = first_layer(tally, *first);
+    store(scratch, 0, layer);
+    // By index, since i also says where the words are; over windows the invariant would have to carry that iterator's state.
     for i in 1..palettes.len() {
-        let layer = load(scratch, i - 1);
+        // A name of its own: a call's result that is laid straight in `layer` is not covered.
         let next = advance(tally, neighbours, layer, palettes[i - 1], palettes[i]);
         store(scratch, i, next);
+        layer = next;
     }
 }

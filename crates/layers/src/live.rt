@@ -1,7 +1,7 @@
 // The live states of a row.
 ghost use Rattle.std.specs.Prelude.{◌≡◌, ◌*◌, ◌<◌, ◌≤◌, length, MatchResult};
 ghost use Rattle.layers.specs.declared.shortage.Shortage.TheVariants.{Scratch};
-ghost use Rattle.layers.specs.Scratch.{Lives, SameFrom};
+ghost use Rattle.layers.specs.Scratch.{HasRoom, Lives, SameFrom};
 ghost use Rattle.layers.specs.Rows.{model};
 
 use crate::backward::backward;
@@ -22,7 +22,7 @@ pub struct Problem<'a, R, T> {
 
 // Whether the scratch has 32 words for each part.
 pub fn check_scratch(palettes: &[u32], scratch: &[u64]) -> Result<(), Shortage>
-    ensures { MatchResult result (λ _. 32 * length palettes.now ≤ length scratch.now) (λ e. (e ≡ Scratch) × (length scratch.now < 32 * length palettes.now)) }
+    ensures { MatchResult result (λ _. HasRoom (length palettes.now) scratch.now) (λ e. (e ≡ Scratch) × (length scratch.now < 32 * length palettes.now)) }
 {
     if scratch.len() / 32 < palettes.len() {
         return Err(Shortage::Scratch);
@@ -32,7 +32,7 @@ pub fn check_scratch(palettes: &[u32], scratch: &[u64]) -> Result<(), Shortage>
 
 // The two passes.
 fn pass<R: NeighbourRule, T: Tally>(problem: &Problem<R, T>, scratch: &mut [u64])
-    requires { 32 * length problem.now.palettes.now ≤ length scratch.old }
+    requires { HasRoom (length problem.now.palettes.now) scratch.old }
     ensures live { Lives (model (R.pairs problem.now.rule.now) (T.machine problem.now.tally.now)) problem.now.palettes.now problem.now.allowed scratch.new }
     ensures rest { SameFrom (32 * length problem.now.palettes.now) scratch.new scratch.old }
 {

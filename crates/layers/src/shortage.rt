@@ -5,9 +5,9 @@ ghost use Rattle.layers.specs.Scratch.{shortage_number};
 #[derive(Clone, Copy, PartialEq, Eq, Debug)]
 pub enum Shortage {
     // the scratch has fewer than 32 words for each part
-    Scratch,
+    Scratch = 9,
     // the strip has fewer bytes than there are parts
-    Strip,
+    Strip = 10,
 }
 
 impl Shortage {
@@ -15,9 +15,6 @@ impl Shortage {
     pub fn number(self) -> u32
         ensures { result ≡ shortage_number self }
     {
-        match self {
-            Shortage::Scratch => 9,
-            Shortage::Strip => 10,
-        }
+        self as u32
     }
 }

@@ -1,8 +1,9 @@
 // Layers in a lent slice: the words of part i are the 32 from 32 × i on.
 ghost use Rattle.std.specs.Prelude.{◌≡◌, ℕ, ◌+◌, ◌*◌, ◌<◌, ◌≤◌, length, slice_index};
+ghost use Rattle.layers.specs.Scratch.{HasRoom};
 
 pub(crate) fn load(scratch: &[u64], i: usize) -> [u64; 32]
-    requires { 32 * i + 32 ≤ length scratch.now }
+    requires { HasRoom (i + 1) scratch.now }
     ensures size { length result ≡ 32 }
     ensures words { (v : ℕ) → v < 32 → slice_index result v ≡ slice_index scratch.now (32 * i + v) }
 {
@@ -12,7 +13,7 @@ pub(crate) fn load(scratch: &[u64], i: usize) -> [u64; 32]
 }
 
 pub(crate) fn store(scratch: &mut [u64], i: usize, layer: [u64; 32])
-    requires { 32 * i + 32 ≤ length scratch.old }
+    requires { HasRoom (i + 1) scratch.old }
     ensures here { (v : ℕ) → v < 32 → slice_index scratch.new (32 * i + v) ≡ slice_index layer v }
     ensures below { (k : ℕ) → k < 32 * i → slice_index scratch.new k ≡ slice_index scratch.old k }
     ensures above { (k : ℕ) → 32 * i + 32 ≤ k → slice_index scratch.new k ≡ slice_index scratch.old k }
