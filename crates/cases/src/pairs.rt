@@ -17,9 +17,9 @@ const LARGEST: [FormulaRule; 7] = [
 fn formulas_at_five_and_two(rt: HostRuntime) {
     let first = [true, false, true, false, false, true, false];
     let turned = [true, false, true, true, true, true, false];
-    for i in 0..7 {
-        assert_eq!(rt; LARGEST[i].allows(5, 2), first[i]);
-        assert_eq!(rt; LARGEST[i].allows(2, 5), turned[i]);
+    for (rule, (first, turned)) in LARGEST.iter().zip(first.iter().zip(&turned)) {
+        assert_eq!(rt; rule.allows(5, 2), *first);
+        assert_eq!(rt; rule.allows(2, 5), *turned);
     }
 }
 

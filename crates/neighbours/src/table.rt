@@ -1,28 +1,16 @@
 // The table of neighbours.
 ghost use Rattle.std.specs.Prelude.{◌≡◌, true, ℕ, slice_index};
 ghost use Rattle.words.specs.Sets.{In, Holds, HoldsEach};
-ghost use Rattle.neighbours.specs.Pairs.{InUse, PairInUse};
+ghost use Rattle.neighbours.specs.Pairs.{PairInUse};
 
 use rules::{Mirror, NeighbourRule, TableRule};
-use words::{WordSet, members};
+use words::{WordSet, members, union_of};
 
 // For each hatching, those that may stand right after it and right before it.
 #[derive(Clone, Copy)]
 pub struct Neighbours {
     pub after: [u32; 32],
     pub before: [u32; 32],
-}
-
-// The hatchings that some palette has.
-fn in_use(palettes: &[u32]) -> u32
-    ensures { Holds result (InUse palettes.now) }
-{
-    let mut all = 0u32;
-    // A fold is no plainer: its proof wants a lemma on the palettes so far, which here is the invariant.
-    for palette in palettes {
-        all = all.union(*palette);
-    }
-    all
 }
 
 // The hatchings of the set that may stand right after v.
@@ -55,7 +43,7 @@ pub fn neighbours_of<R: NeighbourRule>(rule: &R, palettes: &[u32]) -> Neighbours
     ensures after { HoldsEach result.after (PairInUse (R.pairs rule.now) palettes.now) }
     ensures before { HoldsEach result.before (λ w v. PairInUse (R.pairs rule.now) palettes.now v w) }
 {
-    let used = in_use(palettes);
+    let used = union_of(palettes);
     let after = table_of(rule, used);
     let turned = Mirror {
         rule: TableRule { words: after },
