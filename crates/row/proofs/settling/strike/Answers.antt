@@ -1,4 +1,4 @@
-use Rattle.std.proofs.Common.{◌≡◌, ℕ, suc, ◌-◌, ◌<◌, List, length, get_or, sym, ap, ◌∙◌, subst, arith, rules}
+use Rattle.std.proofs.Common.{◌≡◌, ℕ, suc, ◌-◌, ◌<◌, List, length, get_or, sym, refl, ap, ◌∙◌, subst, arith, rules}
 use Rattle.std.proofs.lemmas.List.{get_or-take, length-take-le}
 use Rattle.std.proofs.lemmas.Bool.{both_ways}
 use Rattle.words.specs.Sets.{In, Holds, size}
@@ -31,7 +31,7 @@ returns g c p lives =
     let parts : length ps ≡ a.n = length-take-le a.n a.palettes (omega (arith, a.parts)) in
     let some : 0 < length ps = omega (arith, c.requires, parts) in
     let last : suc (c.narrow-hatchings.new.row.n - 1) ≡ length ps = omega (arith, parts, narrowed.same_size.n, c.requires) in
-    let had = c.results_at.ensures.yields p ps a.results (parts_small a) lives last in
+    let had = c.results_at.ensures.yields m ps a.results (parts_small a) lives refl last in
     let kept : Holds c.intersection-had.result (λ k. In k a.results × In k c.results_at.result) =
     subst (λ (w : ℕ). Holds c.intersection-had.result (λ k. In k w × In k c.results_at.result)) narrowed.results c.intersection-had.ensures in
     let within = size_within 64 c.intersection-had.result a.results (λ k j. ((kept k).0 j).0) in
