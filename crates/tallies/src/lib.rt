@@ -12,4 +12,4 @@ pub use finished::{RowFault, check_finished};
 pub use outcome::outcome_of;
 pub use plateau::PlateauCounter;
 pub use stretch::StretchCounter;
-pub use tally::{StateCount, Tally};
+pub use tally::Tally;

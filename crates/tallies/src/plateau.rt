@@ -7,7 +7,7 @@ ghost use Rattle.std.proofs.Common.{rules};
 use crate::finished::{RowFault, check_finished};
 use crate::outcome::outcome_of;
 use crate::outside::{image_outside, preimage_outside};
-use crate::tally::{StateCount, Tally};
+use crate::tally::Tally;
 use moves::{first_row, first_row_into, row_down, row_down_into, to_diagonal, to_diagonal_into};
 use words::WordSet;
 
@@ -17,9 +17,9 @@ use words::WordSet;
 pub struct PlateauCounter;
 
 impl Tally for PlateauCounter {
-    const STATES: StateCount = StateCount::MOST;
+    const STATES: u32 = 64;
 
-    ghost states = { 64 };
+    ghost STATES = { 64 };
 
     ghost machine = { λ _. plateau_machine };
 
@@ -34,10 +34,6 @@ impl Tally for PlateauCounter {
     ghost results = { Prim.search rules };
 
     ghost outside = { Prim.search rules };
-
-    fn state_count() -> StateCount {
-        Self::STATES
-    }
 
     fn start(&self, _v: u32) -> u32 {
         0

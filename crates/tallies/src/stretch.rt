@@ -7,7 +7,7 @@ ghost use Rattle.std.proofs.Common.{rules};
 use crate::finished::{RowFault, check_finished};
 use crate::outcome::outcome_of;
 use crate::outside::{image_outside, preimage_outside};
-use crate::tally::{StateCount, Tally};
+use crate::tally::Tally;
 use moves::{one_up, one_up_into};
 use rules::NeighbourRule;
 use words::WordSet;
@@ -19,9 +19,9 @@ pub struct StretchCounter<C> {
 }
 
 impl<C: NeighbourRule> Tally for StretchCounter<C> {
-    const STATES: StateCount = StateCount::MOST;
+    const STATES: u32 = 64;
 
-    ghost states = { 64 };
+    ghost STATES = { 64 };
 
     ghost machine = { λ t. stretch_machine (C.NeighbourRule.pairs t.rule) };
 
@@ -36,10 +36,6 @@ impl<C: NeighbourRule> Tally for StretchCounter<C> {
     ghost results = { Prim.search rules };
 
     ghost outside = { Prim.search rules };
-
-    fn state_count() -> StateCount {
-        StateCount::MOST
-    }
 
     fn start(&self, v: u32) -> u32 {
         if v < 32 { 1 } else { 0 }
