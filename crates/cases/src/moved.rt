@@ -30,17 +30,7 @@ impl Tally for PartCounter {
 
     ghost machine = { λ _. on_states 3 (record { start = λ _. 1; step = λ s _ _. (s + 1) % 3; result = λ s. s }) };
 
-    ghost some = { Prim.search rules };
-
-    ghost few = { Prim.search rules };
-
-    ghost starts = { Prim.search rules };
-
-    ghost steps = { Prim.search rules };
-
-    ghost results = { Prim.search rules };
-
-    ghost outside = { Prim.search rules };
+    ghost laws = { Prim.search rules };
 
     fn start(&self, v: u32) -> u32 {
         if v < 32 { 1 } else { 0 }

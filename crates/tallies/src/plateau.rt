@@ -23,17 +23,7 @@ impl Tally for PlateauCounter {
 
     ghost machine = { λ _. plateau_machine };
 
-    ghost some = { Prim.search rules };
-
-    ghost few = { Prim.search rules };
-
-    ghost starts = { Prim.search rules };
-
-    ghost steps = { Prim.search rules };
-
-    ghost results = { Prim.search rules };
-
-    ghost outside = { Prim.search rules };
+    ghost laws = { Prim.search rules };
 
     fn start(&self, _v: u32) -> u32 {
         0

@@ -25,17 +25,7 @@ impl<C: NeighbourRule> Tally for StretchCounter<C> {
 
     ghost machine = { λ t. stretch_machine (C.NeighbourRule.pairs t.rule) };
 
-    ghost some = { Prim.search rules };
-
-    ghost few = { Prim.search rules };
-
-    ghost starts = { Prim.search rules };
-
-    ghost steps = { Prim.search rules };
-
-    ghost results = { Prim.search rules };
-
-    ghost outside = { Prim.search rules };
+    ghost laws = { Prim.search rules };
 
     fn start(&self, v: u32) -> u32 {
         if v < 32 { 1 } else { 0 }

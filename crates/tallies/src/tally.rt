@@ -1,7 +1,7 @@
 // What every tally is.
-ghost use Rattle.std.specs.Prelude.{◌≡◌, ℕ, ◌<◌, ◌≤◌};
+ghost use Rattle.std.specs.Prelude.{◌≡◌, ℕ};
 ghost use Rattle.words.specs.Sets.{Holds};
-ghost use Rattle.tallies.specs.Machines.{Image, Machine, Preimage, ZeroOutside};
+ghost use Rattle.tallies.specs.Machines.{Image, Machine, Preimage, TallyLaws};
 
 use words::{WordSet, members};
 
@@ -52,19 +52,6 @@ pub trait Tally {
         states
     }
 
-    // there is a state, and there are at most 64
-    ghost some: { 0 < STATES };
-
-    ghost few: { STATES ≤ 64 };
-
-    // each state given is one of the tally's
-    ghost starts: { (t : Self) (v : ℕ) → (machine t).start v < STATES };
-
-    ghost steps: { (t : Self) (s v w : ℕ) → (machine t).step s v w < STATES };
-
-    // each result is below 64
-    ghost results: { (t : Self) (s : ℕ) → (machine t).result s < 64 };
-
-    // 0 for a state that is none of the tally's, or a hatching above 31
-    ghost outside: { (t : Self) → ZeroOutside STATES (machine t) };
+    // what each implementation proves: from 1 to 64 states, and nothing past them
+    ghost laws: { TallyLaws STATES machine };
 }

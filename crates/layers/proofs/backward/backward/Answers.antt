@@ -64,7 +64,7 @@ returns g c = record {
       let layer = loaded old c.load.result last (Reachable m ps last) c.load.ensures.size c.load.ensures.words
       (reachable_small m ps small last) (reached last (omega arith)) in
       let live = through_last m ps allowed last g.T.Tally.STATES c.ending_states-ending.result c.load.result c.last_layer.result layer
-      (reachable_few m ps g.T.Tally.STATES (g.met.T.Tally.starts t) (g.met.T.Tally.steps t) last) c.ending_states-ending.ensures
+      (reachable_few m ps g.T.Tally.STATES (g.met.T.Tally.laws.starts t) (g.met.T.Tally.laws.steps t) last) c.ending_states-ending.ensures
       (search rules) in
       let none : 0 ≡ length ps - suc last = omega arith in
       let done = subst (λ (d : ℕ). Stored new last (Through m ps allowed d last)) none

@@ -11,7 +11,7 @@ loop-v-preserved g c =
     let v = c.in-Some.v in
     let s : ℕ = c.start.result in
     let is : (g.T.Tally.machine t).start v ≡ s = search rules in
-    let small : s < 64 = omega (arith, is, g.met.T.Tally.starts t v, g.met.T.Tally.few) in
+    let small : s < 64 = omega (arith, is, g.met.T.Tally.laws.starts t v, g.met.T.Tally.laws.few) in
     let alone = holds_one 64 c.with.result s (λ k. (g.T.Tally.machine t).start v ≡ k) c.with.ensures small (λ k. (λ e. sym e ∙ is, λ e. is ∙ sym e)) in (
       search rules,
       lay_more _ c.args.palette 32 c.loop-v.v-iterator.rest c.next.new.self.rest c.in-Some.v c.with.result c.loop-v.layer
