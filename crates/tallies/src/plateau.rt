@@ -4,7 +4,7 @@ ghost use Rattle.tallies.specs.Plateaus.{Measures, plateau_machine};
 ghost use Rattle.tallies.specs.Rows.{Faulty};
 ghost use Rattle.std.proofs.Common.{rules};
 
-use crate::finished::{RowFault, check_finished};
+use crate::finished::{FinishedRow, RowFault};
 use crate::outcome::outcome_of;
 use crate::outside::{image_outside, preimage_outside};
 use crate::tally::Tally;
@@ -68,10 +68,16 @@ impl Tally for PlateauCounter {
 impl PlateauCounter {
     // How long the longest run of a finished row is.
     // The counter's result is the LONGESTPLATEAU up to 8; a run counts even where it is the last and no step ends it.
+    pub fn longest_run_in(&self, row: FinishedRow<'_>) -> u32
+        ensures { Measures row.entry.hatchings.now result }
+    {
+        outcome_of(self, row.hatchings)
+    }
+
+    // The same of numbers, where they are a finished row.
     pub fn longest_run(&self, row: &[u32]) -> Result<u32, RowFault>
         ensures { MatchResult result (Measures row.now) (Faulty row.now) }
     {
-        check_finished(row)?;
-        Ok(outcome_of(self, row))
+        Ok(self.longest_run_in(FinishedRow::new(row)?))
     }
 }
