@@ -33,7 +33,7 @@ pub struct FinishedRow<'a> {
 }
 
 impl<'a> FinishedRow<'a> {
-    // The row that the numbers are, where nothing keeps them from it.
+    // The numbers as a finished row, where they are one.
     pub fn new(row: &'a [u32]) -> Result<FinishedRow<'a>, RowFault>
         ensures { MatchResult result (λ finished. finished.hatchings.now ≡ row.now) (Faulty row.now) }
     {
