@@ -5,7 +5,7 @@ ghost use Rattle.std.proofs.Common.{rules};
 
 use rules::FormulaRule;
 use std::process::Abort;
-use tallies::{PlateauCounter, StateCount, StretchCounter, Tally};
+use tallies::{PlateauCounter, StretchCounter, Tally};
 use words::WordSet;
 
 // Hatchings, and two numbers above them.
@@ -24,27 +24,13 @@ const SETS: [u64; 6] = [
 struct PartCounter;
 
 impl Tally for PartCounter {
-    const STATES: StateCount = StateCount { value: 3 };
+    const STATES: u32 = 3;
 
-    ghost states = { 3 };
+    ghost STATES = { 3 };
 
     ghost machine = { λ _. on_states 3 (record { start = λ _. 1; step = λ s _ _. (s + 1) % 3; result = λ s. s }) };
 
-    ghost some = { Prim.search rules };
-
-    ghost few = { Prim.search rules };
-
-    ghost starts = { Prim.search rules };
-
-    ghost steps = { Prim.search rules };
-
-    ghost results = { Prim.search rules };
-
-    ghost outside = { Prim.search rules };
-
-    fn state_count() -> StateCount {
-        Self::STATES
-    }
+    ghost laws = { Prim.search rules };
 
     fn start(&self, v: u32) -> u32 {
         if v < 32 { 1 } else { 0 }

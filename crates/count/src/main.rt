@@ -38,10 +38,9 @@ fn argument(rt: &HostRuntime) -> anyhow::Result<u32> {
 
 fn run(rt: &HostRuntime) -> anyhow::Result<()> {
     let r = argument(rt)?;
-    let mut number = 0u64;
-    for line in BufReader::new(rt.alloc(), rt.stdin())?.split(rt.alloc(), b'\n') {
+    let lines = BufReader::new(rt.alloc(), rt.stdin())?.split(rt.alloc(), b'\n');
+    for (number, line) in (1u64..).zip(lines) {
         let line = line?;
-        number = number.saturating_add(1);
         match count_line(rt.alloc(), &line, r) {
             Ok(counts) => show(rt, number, r, counts)?,
             Err(fault) => println!(rt; "line {number}: {fault}")?,

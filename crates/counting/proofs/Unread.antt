@@ -1,39 +1,37 @@
 -- The words of a line that were read, and the first that was not. Assumes nothing.
-use Rattle.std.proofs.Common.{◌≡◌, ℕ, ◌<◌, true, List, [], ◌∷◌, ◌++◌, map, length, get_or, is_some, Some, None, Option, sym, ap, ◌∙◌, subst, ap₂, arith, length-append}
-use Rattle.std.proofs.lemmas.List.{append_assoc, get_or_append_left, get_or_at, get_or-map, length-map, map-append}
+use Rattle.std.proofs.Common.{◌≡◌, ℕ, ◌+◌, ◌<◌, ◌≤◌, true, List, [], ◌∷◌, ◌++◌, map, length, get_or, take, is_some, Some, None, Option, sym, ap, ◌∙◌, ap₂, arith}
+use Rattle.std.proofs.lemmas.List.{get_or_default, get_or-map, get_or-take, length-map, length-take-le, map-append, take_more}
 use Rattle.counting.specs.Lines.{FirstUnread, number_of}
 
--- as many words as numbers
-same_length : (seen : List (List ℕ)) (ns : List ℕ) → map number_of seen ≡ map Some ns → length seen ≡ length ns
-same_length seen ns e = sym (length-map seen number_of) ∙ ap length e ∙ length-map ns Some
+-- the first n words write the numbers
+module _ (ws : List (List ℕ)) (n : ℕ) (ns : List ℕ) (read : map number_of (take n ws) ≡ map Some ns) where
+  -- as many words as numbers
+  size : n ≤ length ws → n ≡ length ns
+  size within = sym (length-take-le n ws within) ∙ sym (length-map (take n ws) number_of) ∙ ap length read ∙ length-map ns Some
 
-pub first_unread : (ws seen rest : List (List ℕ)) (word ns : List ℕ) (k : ℕ) → ws ≡ seen ++ (word ∷ rest) → map number_of seen ≡ map Some ns
-    → k ≡ length ns → number_of word ≡ None → FirstUnread ws k
-first_unread ws seen rest word ns k split read size none =
-    subst (λ (l : List (List ℕ)). FirstUnread l k) (sym split) (record { inside = inside; unread = unread; before = before })
-  where
-    at : length seen ≡ k
-    at = same_length seen ns read ∙ sym size
+  module _ (word : List ℕ) (turn : (n < length ws) × (word ≡ get_or ws n word)) where
+    -- the next writes none
+    pub first_unread : (k : ℕ) → number_of word ≡ None → k ≡ length ns → FirstUnread ws k
+    first_unread k none is = record {
+      inside = omega (arith, here, turn.0);
+      unread = ap (λ (i : ℕ). number_of (get_or ws i [])) here ∙ ap number_of (get_or_default ws n [] word turn.0 ∙ sym turn.1) ∙ none;
+      before = before;
+    }
+      where
+        here : k ≡ n
+        here = omega (arith, is, size (omega (arith, turn.0)))
 
-    inside : k < length (seen ++ (word ∷ rest))
-    inside = omega (arith, at, length-append seen (word ∷ rest))
+        before : (j : ℕ) → j < k → is_some (number_of (get_or ws j [])) ≡ true
+        before j l =
+            let first : j < n = omega (arith, here) in
+            let taken : j < length (take n ws) = omega (arith, length-take-le n ws (omega (arith, turn.0))) in
+            let found : j < length ns = omega (arith, is) in
+            ap (λ (w : List ℕ). is_some (number_of w)) (sym (get_or-take n ws j [] first))
+            ∙ ap is_some (sym (get_or-map number_of (take n ws) j [] None taken) ∙ ap (λ (os : List (Option ℕ)). get_or os j None) read ∙ get_or-map Some ns j 0 None found)
 
-    unread : number_of (get_or (seen ++ (word ∷ rest)) k []) ≡ None
-    unread = ap number_of (get_or_at seen word rest [] k at) ∙ none
-
-    before : (j : ℕ) → j < k → is_some (number_of (get_or (seen ++ (word ∷ rest)) j [])) ≡ true
-    before j l =
-        let in_seen : j < length seen = omega (arith, at) in
-        let in_ns : j < length ns = omega (arith, size) in
-        ap (λ (w : List ℕ). is_some (number_of w)) (get_or_append_left seen (word ∷ rest) [] j in_seen)
-        ∙ ap is_some (sym (get_or-map number_of seen j [] None in_seen) ∙ ap (λ (l : List (Option ℕ)). get_or l j None) read ∙ get_or-map Some ns j 0 None in_ns)
-
--- one word more
-pub read_more : (ws seen rest : List (List ℕ)) (word ns more : List ℕ) (n : ℕ) → ws ≡ seen ++ (word ∷ rest) → map number_of seen ≡ map Some ns
-    → number_of word ≡ Some n → more ≡ ns ++ (n ∷ [])
-    → (ws ≡ (seen ++ (word ∷ [])) ++ rest) × (map number_of (seen ++ (word ∷ [])) ≡ map Some more)
-read_more ws seen rest word ns more n split read is pushed = (
-  split ∙ sym (append_assoc seen (word ∷ []) rest),
-  map-append number_of seen (word ∷ []) ∙ ap₂ (λ (a b : List (Option ℕ)). a ++ b) read (ap (λ (o : Option ℕ). o ∷ []) is)
-      ∙ sym (map-append Some ns (n ∷ [])) ∙ ap (map Some) (sym pushed),
-)
+    -- the next writes one more
+    pub read_more : (x : ℕ) (more : List ℕ) → number_of word ≡ Some x → more ≡ ns ++ (x ∷ []) → map number_of (take (n + 1) ws) ≡ map Some more
+    read_more x more is pushed =
+        ap (map number_of) (take_more ws n word turn.0) ∙ map-append number_of (take n ws) (get_or ws n word ∷ [])
+        ∙ ap₂ (λ (a b : List (Option ℕ)). a ++ b) read (ap (λ (w : List ℕ). number_of w ∷ []) (sym turn.1) ∙ ap (λ (o : Option ℕ). o ∷ []) is)
+        ∙ sym (map-append Some ns (x ∷ [])) ∙ ap (map Some) (sym pushed)

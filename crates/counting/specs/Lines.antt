@@ -1,15 +1,10 @@
 -- A line of text as numbers apart by blanks. Assumes nothing.
-use Rattle.std.specs.Prelude.{◌≡◌, ℕ, ◌+◌, ◌-◌, ◌*◌, ◌^◌, ◌<◌, min, Bool, true, false, cond, not, ◌||◌, List, [], ◌∷◌, ◌++◌, map, length, is_some, Some, None, fold, Option, ◌==◌, slice_index_or}
+use Rattle.std.specs.Prelude.{◌≡◌, ℕ, ◌+◌, ◌-◌, ◌*◌, ◌^◌, ◌<◌, min, Bool, true, cond, ◌||◌, List, [], ◌∷◌, ◌++◌, map, length, is_some, Some, None, fold, Option, ◌==◌, slice_index_or}
 use Rattle.std.specs.Str.{all_ascii_digits}
 
 -- a blank is a space, a tab or a carriage return
 abbrev pub blank : ℕ → Bool
 blank b = b == 32 || (b == 9 || b == 13)
-
--- a byte is a blank, or, where the kind is false, is none
-abbrev pub of_kind : Bool → ℕ → Bool
-of_kind true b = blank b
-of_kind false b = not (blank b)
 
 -- a word that has ended, in front of the words behind it; between two blanks there is none
 abbrev pub ended : List ℕ → List (List ℕ) → List (List ℕ)

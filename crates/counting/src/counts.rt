@@ -11,7 +11,7 @@ use crate::fault::LineFault;
 use crate::line::numbers;
 use rules::FormulaRule;
 use std::alloc::Global;
-use tallies::{PlateauCounter, RowFault, StretchCounter};
+use tallies::{FinishedRow, PlateauCounter, StretchCounter};
 
 // The stretches of a row over each formula, and its longest run.
 #[derive(Clone, Copy, PartialEq, Eq, Debug)]
@@ -26,13 +26,6 @@ pub struct Counts {
     pub longest_run: u32,
 }
 
-// The stretches of a finished row over one formula.
-fn over(rule: FormulaRule, row: &[u32]) -> Result<u32, RowFault>
-    ensures { MatchResult result (Stretches (formula_pairs rule) row.now) (Faulty row.now) }
-{
-    StretchCounter { rule }.stretches(row)
-}
-
 // Counts a finished row of at most 60 parts; r is the number of the last two formulas.
 pub fn counts_of(row: &[u32], r: u32) -> Result<Counts, LineFault>
     ensures { MatchResult result (Counted r row.now) (Uncounted row.now) }
@@ -40,23 +33,17 @@ pub fn counts_of(row: &[u32], r: u32) -> Result<Counts, LineFault>
     if row.len() > 60 {
         return Err(LineFault::TooMany(row.len()));
     }
-    let always = over(FormulaRule::Always, row)?;
-    let equal = over(FormulaRule::Equal, row)?;
-    let different = over(FormulaRule::Different, row)?;
-    let less = over(FormulaRule::Less, row)?;
-    let at_most = over(FormulaRule::AtMost, row)?;
-    let within = over(FormulaRule::Within(r), row)?;
-    let both_at_least = over(FormulaRule::BothAtLeast(r), row)?;
-    let longest_run = PlateauCounter.longest_run(row)?;
+    let row = FinishedRow::new(row)?;
+    let stretches = |rule| StretchCounter { rule }.stretches_in(row);
     Ok(Counts {
-        always,
-        equal,
-        different,
-        less,
-        at_most,
-        within,
-        both_at_least,
-        longest_run,
+        always: stretches(FormulaRule::Always),
+        equal: stretches(FormulaRule::Equal),
+        different: stretches(FormulaRule::Different),
+        less: stretches(FormulaRule::Less),
+        at_most: stretches(FormulaRule::AtMost),
+        within: stretches(FormulaRule::Within(r)),
+        both_at_least: stretches(FormulaRule::BothAtLeast(r)),
+        longest_run: PlateauCounter.longest_run_in(row),
     })
 }
 

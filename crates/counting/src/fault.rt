@@ -4,23 +4,28 @@ ghost use Rattle.counting.specs.declared.fault.LineFault.TheVariants.{Memory};
 ghost use Rattle.counting.specs.Faults.{of_row};
 
 use std::alloc::{AllocError, AllocFailed};
-use std::fmt;
 use tallies::RowFault;
+use thiserror::Error;
 
-#[derive(Clone, Copy, PartialEq, Eq, Debug)]
+#[derive(Clone, Copy, PartialEq, Eq, Debug, Error)]
 pub enum LineFault {
-    // there is no part
+    #[error("there is no part")]
     NoParts,
     // this word, counted from 0, is the first that is no number
+    #[error("word {} is no number", .0.saturating_add(1))]
     NoNumber(usize),
     // the hatching of this part, counted from 0, is the first above 31
+    #[error("word {} is above 31, the highest hatching", .0.saturating_add(1))]
     TooHigh(usize),
     // so many parts, which are more than 60
+    #[error("there are {0} parts, and 60 are the most")]
     TooMany(usize),
-    // there is no memory for the line's numbers
+    // for the line's numbers
+    #[error("there is no memory for it")]
     Memory,
 }
 
+// The conversions are written out: the contracts name the fault that `?` makes, and a derived one has no contract.
 impl From<AllocError> for LineFault {
     ghost from_gives = { λ _ r. r ≡ Memory };
 
@@ -44,24 +49,6 @@ impl From<RowFault> for LineFault {
         match e {
             RowFault::Empty => LineFault::NoParts,
             RowFault::TooHigh(i) => LineFault::TooHigh(i),
-        }
-    }
-}
-
-impl fmt::Display for LineFault {
-    fn fmt<W: fmt::Write>(&self, f: &mut fmt::Formatter<W>) -> fmt::Result {
-        match *self {
-            LineFault::NoParts => write!(f, "there is no part"),
-            LineFault::NoNumber(k) => {
-                let word = k.saturating_add(1);
-                write!(f, "word {word} is no number")
-            }
-            LineFault::TooHigh(i) => {
-                let part = i.saturating_add(1);
-                write!(f, "word {part} is above 31, the highest hatching")
-            }
-            LineFault::TooMany(n) => write!(f, "there are {n} parts, and 60 are the most"),
-            LineFault::Memory => write!(f, "there is no memory for it"),
         }
     }
 }

@@ -1,8 +1,7 @@
 // A line of text as numbers apart by blanks.
-ghost use Rattle.std.specs.Prelude.{◌≡◌, ◌<◌, [], ◌∷◌, length, IfSome, MatchOption, MatchResult};
-ghost use Rattle.std.specs.List.{prefix_len};
+ghost use Rattle.std.specs.Prelude.{◌≡◌, MatchOption, MatchResult};
 ghost use Rattle.counting.specs.Faults.{Unread};
-ghost use Rattle.counting.specs.Lines.{Reads, WholeNumber, blank, decimal_value, number_of, of_kind, words};
+ghost use Rattle.counting.specs.Lines.{Reads, WholeNumber, blank, decimal_value, number_of, words};
 
 use crate::fault::LineFault;
 use std::alloc::Global;
@@ -12,30 +11,6 @@ fn is_blank(b: u8) -> bool
     ensures { result ≡ blank b }
 {
     matches!(b, b' ' | b'\t' | b'\r')
-}
-
-// How many bytes at the front are blanks, or, where `blanks` is false, are none.
-fn front(text: &[u8], blanks: bool) -> usize
-    ensures { result ≡ prefix_len (of_kind blanks) text.now }
-{
-    for (i, b) in text.iter().enumerate() {
-        if is_blank(*b) != blanks {
-            return i;
-        }
-    }
-    text.len()
-}
-
-// The first word of a text, and what stands behind it.
-fn next_word(text: &[u8]) -> Option<(&[u8], &[u8])>
-    ensures word { MatchOption result (words text.now ≡ []) (λ p. words text.now ≡ p.0.now ∷ words p.1.now) }
-    ensures less { IfSome result (λ p. length p.1.now < length text.now) }
-{
-    let (_, text) = text.split_at(front(text, true));
-    if text.is_empty() {
-        return None;
-    }
-    Some(text.split_at(front(text, false)))
 }
 
 // The number that a word writes.
@@ -59,13 +34,11 @@ pub fn numbers(heap: Global, line: &[u8]) -> Result<Vec<u32>, LineFault>
     ensures { MatchResult result (λ v. Reads line.now v.items) (Unread (words line.now)) }
 {
     let mut found = Vec::new(heap);
-    let mut rest = line;
-    while let Some((word, behind)) = next_word(rest) {
+    for word in line.split(|b| is_blank(*b)).filter(|word| !word.is_empty()) {
         let Some(n) = number(word) else {
             return Err(LineFault::NoNumber(found.len()));
         };
         found.push(n)?;
-        rest = behind;
     }
     Ok(found)
 }
@@ -77,8 +50,5 @@ pub fn whole_number(text: &str) -> Option<u32>
     if text.starts_with('+') {
         return None;
     }
-    match text.parse::<u32>() {
-        Ok(n) => Some(n),
-        Err(_) => None,
-    }
+    text.parse().ok()
 }

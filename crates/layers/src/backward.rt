@@ -38,10 +38,10 @@ fn retain<T: Tally>(
 
 // The states of the tally whose result is allowed.
 fn ending_states<T: Tally>(tally: &T, allowed: u64) -> u64
-    ensures { Holds result (λ s. (s < T.states) × In ((T.machine tally.now).result s) allowed) }
+    ensures { Holds result (λ s. (s < T.STATES) × In ((T.machine tally.now).result s) allowed) }
 {
     let mut ending = 0u64;
-    for s in 0..T::state_count().value {
+    for s in 0..T::STATES {
         if allowed.contains(tally.result(s)) {
             ending = ending.with(s);
         }

@@ -25,6 +25,7 @@ pub enum FormulaRule {
 
 impl FormulaRule {
     // The formula of a code from 0 to 6, in the order above; r counts in the last two only.
+    // No TryFrom, which has one argument; and no cast gives a code, since an enum with data has no discriminants.
     pub fn from_code(code: u32, r: u32) -> Option<FormulaRule>
         ensures { MatchOption result (6 < code) (λ g. (formula_code g ≡ code) × Carries g r) }
     {

@@ -17,6 +17,19 @@ pub record ZeroOutside (n : ℕ) (m : Machine) : Type 0 where
   pub step : (s v w : ℕ) → (n ≤ s) ⊎ ((31 < v) ⊎ (31 < w)) → m.step s v w ≡ 0
   pub result : (s : ℕ) → n ≤ s → m.result s ≡ 0
 
+-- What a tally of n states keeps, of which machine t is the meaning of the tally t.
+pub record TallyLaws {T : Type 0} (n : ℕ) (machine : T → Machine) : Type 0 where
+  -- there is a state, and there are at most 64
+  pub some : 0 < n
+  pub few : n ≤ 64
+  -- each state given is one of the n
+  pub starts : (t : T) (v : ℕ) → (machine t).start v < n
+  pub steps : (t : T) (s v w : ℕ) → (machine t).step s v w < n
+  -- each result is below 64
+  pub results : (t : T) (s : ℕ) → (machine t).result s < 64
+  -- 0 for a state that is none of the n, or a hatching above 31
+  pub outside : (t : T) → ZeroOutside n (machine t)
+
 -- the machine m on n states and the hatchings below 32, and 0 outside
 abbrev pub on_states : ℕ → Machine → Machine
 on_states n m = record {

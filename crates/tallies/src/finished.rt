@@ -1,4 +1,5 @@
 // Finished rows: at least one part, and a hatching below 32 at each.
+ghost use Rattle.std.specs.Prelude.{◌≡◌};
 ghost use Rattle.std.specs.Result.{MatchResult};
 ghost use Rattle.tallies.specs.Rows.{Faulty, Finished};
 
@@ -18,10 +19,25 @@ pub fn check_finished(row: &[u32]) -> Result<(), RowFault>
     if row.is_empty() {
         return Err(RowFault::Empty);
     }
-    for (i, hatching) in row.iter().enumerate() {
-        if *hatching > 31 {
-            return Err(RowFault::TooHigh(i));
-        }
+    match row.iter().position(|hatching| *hatching > 31) {
+        Some(i) => Err(RowFault::TooHigh(i)),
+        None => Ok(()),
     }
-    Ok(())
+}
+
+// A finished row that is lent.
+#[derive(Clone, Copy)]
+pub struct FinishedRow<'a> {
+    pub hatchings: &'a [u32],
+    ghost finished: { Finished hatchings.now },
+}
+
+impl<'a> FinishedRow<'a> {
+    // The numbers as a finished row, where they are one.
+    pub fn new(row: &'a [u32]) -> Result<FinishedRow<'a>, RowFault>
+        ensures { MatchResult result (λ finished. finished.hatchings.now ≡ row.now) (Faulty row.now) }
+    {
+        check_finished(row)?;
+        Ok(FinishedRow { hatchings: row })
+    }
 }

@@ -8,8 +8,8 @@ pub mod plateau;
 pub mod stretch;
 pub mod tally;
 
-pub use finished::{RowFault, check_finished};
+pub use finished::{FinishedRow, RowFault, check_finished};
 pub use outcome::outcome_of;
 pub use plateau::PlateauCounter;
 pub use stretch::StretchCounter;
-pub use tally::{StateCount, Tally};
+pub use tally::Tally;

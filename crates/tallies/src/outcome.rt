@@ -11,11 +11,9 @@ pub fn outcome_of<T: Tally>(tally: &T, row: &[u32]) -> u32
     let [first, rest @ ..] = row else {
         return tally.result(0);
     };
-    let mut state = tally.start(*first);
-    let mut last = *first;
-    for next in rest {
-        state = tally.step(state, last, *next);
-        last = *next;
-    }
+    let state = row.iter().zip(rest).fold(
+        tally.start(*first),
+        |state, (v, w)| tally.step(state, *v, *w),
+    );
     tally.result(state)
 }

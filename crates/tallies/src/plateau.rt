@@ -4,10 +4,10 @@ ghost use Rattle.tallies.specs.Plateaus.{Measures, plateau_machine};
 ghost use Rattle.tallies.specs.Rows.{Faulty};
 ghost use Rattle.std.proofs.Common.{rules};
 
-use crate::finished::{RowFault, check_finished};
+use crate::finished::{FinishedRow, RowFault};
 use crate::outcome::outcome_of;
 use crate::outside::{image_outside, preimage_outside};
-use crate::tally::{StateCount, Tally};
+use crate::tally::Tally;
 use moves::{first_row, first_row_into, row_down, row_down_into, to_diagonal, to_diagonal_into};
 use words::WordSet;
 
@@ -17,27 +17,13 @@ use words::WordSet;
 pub struct PlateauCounter;
 
 impl Tally for PlateauCounter {
-    const STATES: StateCount = StateCount::MOST;
+    const STATES: u32 = 64;
 
-    ghost states = { 64 };
+    ghost STATES = { 64 };
 
     ghost machine = { λ _. plateau_machine };
 
-    ghost some = { Prim.search rules };
-
-    ghost few = { Prim.search rules };
-
-    ghost starts = { Prim.search rules };
-
-    ghost steps = { Prim.search rules };
-
-    ghost results = { Prim.search rules };
-
-    ghost outside = { Prim.search rules };
-
-    fn state_count() -> StateCount {
-        Self::STATES
-    }
+    ghost laws = { Prim.search rules };
 
     fn start(&self, _v: u32) -> u32 {
         0
@@ -82,10 +68,16 @@ impl Tally for PlateauCounter {
 impl PlateauCounter {
     // How long the longest run of a finished row is.
     // The counter's result is the LONGESTPLATEAU up to 8; a run counts even where it is the last and no step ends it.
+    pub fn longest_run_in(&self, row: FinishedRow<'_>) -> u32
+        ensures { Measures row.entry.hatchings.now result }
+    {
+        outcome_of(self, row.hatchings)
+    }
+
+    // The same of numbers, where they are a finished row.
     pub fn longest_run(&self, row: &[u32]) -> Result<u32, RowFault>
         ensures { MatchResult result (Measures row.now) (Faulty row.now) }
     {
-        check_finished(row)?;
-        Ok(outcome_of(self, row))
+        Ok(self.longest_run_in(FinishedRow::new(row)?))
     }
 }

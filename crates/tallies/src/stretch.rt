@@ -4,10 +4,10 @@ ghost use Rattle.tallies.specs.Rows.{Faulty};
 ghost use Rattle.tallies.specs.Stretches.{Stretches, stretch_machine};
 ghost use Rattle.std.proofs.Common.{rules};
 
-use crate::finished::{RowFault, check_finished};
+use crate::finished::{FinishedRow, RowFault};
 use crate::outcome::outcome_of;
 use crate::outside::{image_outside, preimage_outside};
-use crate::tally::{StateCount, Tally};
+use crate::tally::Tally;
 use moves::{one_up, one_up_into};
 use rules::NeighbourRule;
 use words::WordSet;
@@ -19,27 +19,13 @@ pub struct StretchCounter<C> {
 }
 
 impl<C: NeighbourRule> Tally for StretchCounter<C> {
-    const STATES: StateCount = StateCount::MOST;
+    const STATES: u32 = 64;
 
-    ghost states = { 64 };
+    ghost STATES = { 64 };
 
     ghost machine = { λ t. stretch_machine (C.NeighbourRule.pairs t.rule) };
 
-    ghost some = { Prim.search rules };
-
-    ghost few = { Prim.search rules };
-
-    ghost starts = { Prim.search rules };
-
-    ghost steps = { Prim.search rules };
-
-    ghost results = { Prim.search rules };
-
-    ghost outside = { Prim.search rules };
-
-    fn state_count() -> StateCount {
-        StateCount::MOST
-    }
+    ghost laws = { Prim.search rules };
 
     fn start(&self, v: u32) -> u32 {
         if v < 32 { 1 } else { 0 }
@@ -84,10 +70,16 @@ impl<C: NeighbourRule> Tally for StretchCounter<C> {
 impl<C: NeighbourRule> StretchCounter<C> {
     // How many stretches a finished row has.
     // The counter's result is the SEQBIN count up to 63, and for at most 60 parts that count itself.
+    pub fn stretches_in(&self, row: FinishedRow<'_>) -> u32
+        ensures { Stretches (C.NeighbourRule.pairs self.now.rule) row.entry.hatchings.now result }
+    {
+        outcome_of(self, row.hatchings)
+    }
+
+    // The same of numbers, where they are a finished row.
     pub fn stretches(&self, row: &[u32]) -> Result<u32, RowFault>
         ensures { MatchResult result (Stretches (C.NeighbourRule.pairs self.now.rule) row.now) (Faulty row.now) }
     {
-        check_finished(row)?;
-        Ok(outcome_of(self, row))
+        Ok(self.stretches_in(FinishedRow::new(row)?))
     }
 }

@@ -1,36 +1,19 @@
 // What every tally is.
-ghost use Rattle.std.specs.Prelude.{◌≡◌, ℕ, ◌<◌, ◌≤◌};
+ghost use Rattle.std.specs.Prelude.{◌≡◌, ℕ};
 ghost use Rattle.words.specs.Sets.{Holds};
-ghost use Rattle.tallies.specs.Machines.{Image, Machine, Preimage, ZeroOutside};
+ghost use Rattle.tallies.specs.Machines.{Image, Machine, Preimage, TallyLaws};
 
 use words::{WordSet, members};
 
-// A number of states: from 1 to 64.
-#[derive(Clone, Copy)]
-pub struct StateCount {
-    pub value: u32,
-    ghost some: { 0 < value },
-    ghost few: { value ≤ 64 },
-}
-
-impl StateCount {
-    // The most that a tally can have.
-    pub const MOST: StateCount = StateCount { value: 64 };
-}
-
 pub trait Tally {
     // How many states the tally has. States are numbered from 0.
-    const STATES: StateCount;
+    const STATES: u32;
 
     // the same number, for clauses
-    ghost states: { ℕ };
+    ghost STATES: { ℕ };
 
     // what the tally means: start, step and result
     ghost machine: { Self → Machine };
-
-    // The constant, for code that is generic over tallies.
-    fn state_count() -> StateCount
-        ensures { result.value ≡ states };
 
     // The state after the first hatching v of a row.
     fn start(&self, v: u32) -> u32
@@ -69,19 +52,6 @@ pub trait Tally {
         states
     }
 
-    // there is a state, and there are at most 64
-    ghost some: { 0 < states };
-
-    ghost few: { states ≤ 64 };
-
-    // each state given is one of the tally's
-    ghost starts: { (t : Self) (v : ℕ) → (machine t).start v < states };
-
-    ghost steps: { (t : Self) (s v w : ℕ) → (machine t).step s v w < states };
-
-    // each result is below 64
-    ghost results: { (t : Self) (s : ℕ) → (machine t).result s < 64 };
-
-    // 0 for a state that is none of the tally's, or a hatching above 31
-    ghost outside: { (t : Self) → ZeroOutside states (machine t) };
+    // what each implementation proves: from 1 to 64 states, and nothing past them
+    ghost laws: { TallyLaws STATES machine };
 }

@@ -1,24 +1,41 @@
-use Rattle.std.proofs.Common.{◌≡◌, [], ◌∷◌, ◌++◌, length, Some, None, vec_items, ap, ◌∙◌, rules}
-use Rattle.counting.specs.Lines.{number_of, words}
+use Rattle.std.proofs.Common.{map, length, vec_items, sym, ap, ◌∙◌, subst, arith, rules}
+use Rattle.std.proofs.lemmas.Iterator.{YieldsList}
+use Rattle.std.proofs.lemmas.Iterator.Consumers.{YieldsList-at, YieldsList-from_filter, YieldsList-turn, YieldsList-end}
+use Rattle.std.proofs.lemmas.Iterator.Splits.{YieldsList-from_slice_split}
+use Rattle.std.proofs.lemmas.List.{length_push, take_all}
+use Rattle.counting.specs.Lines.{blank, number_of, words}
+use Rattle.counting.proofs.Splitting.{inked, inked_length, words_pieces}
 use Rattle.counting.proofs.Unread.{first_unread, read_more}
 use Rattle.counting.proofs.line.numbers.Goals as goal
 
-pub returns-in_default-number : goal.returns-in_default-number
-returns-in_default-number c =
+pub loop-word-init : goal.loop-word-init
+loop-word-init c = record {
+  given = subst (YieldsList _ _ c.into_iter-word-iterator.result) (words_pieces c.args.line.now)
+      (YieldsList-at c.into_iter-word-iterator.ensures.into_iter_gives (YieldsList-from_filter _ inked
+      (YieldsList-at c.filter-word-items.ensures.source
+      (YieldsList-from_slice_split _ blank c.args.line.now c.split.ensures.rest c.split.ensures.done c.split.ensures.closure (λ x b q k. search rules)))
+      c.filter-word-items.ensures.closure (λ x b q k. search (rules, inked_length))));
+  read = search rules;
+}
+
+pub returns-in_default : goal.returns-in_default
+returns-in_default c =
     let l = c.loop-word in
-    let none : number_of c.in-Some.word.now ≡ None = search rules in
-    let size : c.len.result ≡ length (vec_items l.found) = c.len.ensures ∙ l.found.ok.0 in
-    first_unread (words c.args.line.now) l.invariant.0 (words c.in-Some.behind.now) c.in-Some.word.now (vec_items l.found) c.len.result
-    (l.invariant.1.0 ∙ ap (λ ws. l.invariant.0 ++ ws) c.in-Some.ensures.word) l.invariant.1.1 size none
+    let turn = YieldsList-turn l.invariant.given l.yielded l.word-iterator l.yielded_by c.next.result c.next.new.self c.in-Some.word c.in-Some.is c.next.ensures.steps in
+    first_unread (words c.args.line.now) (length l.yielded) (vec_items l.found) l.invariant.read c.in-Some.word.now turn c.len.result (search rules) (search rules)
 
 pub loop-word-preserved : goal.loop-word-preserved
 loop-word-preserved c =
     let l = c.loop-word in
-    let word = c.in-Some.word.now in
-    let n = c.in-Some-number.n in
-    let is : number_of word ≡ Some n = search rules in
-    let pushed : vec_items c.push.new.self ≡ vec_items l.found ++ (n ∷ []) = search rules in (
-      l.invariant.0 ++ (word ∷ []),
-      read_more (words c.args.line.now) l.invariant.0 (words c.in-Some.behind.now) word (vec_items l.found) (vec_items c.push.new.self)
-          n (l.invariant.1.0 ∙ ap (λ ws. l.invariant.0 ++ ws) c.in-Some.ensures.word) l.invariant.1.1 is pushed,
-    )
+    let turn = YieldsList-turn l.invariant.given l.yielded l.word-iterator l.yielded_by c.next.result c.next.new.self c.in-Some.word c.in-Some.is c.next.ensures.steps in
+    record {
+      given = l.invariant.given;
+      read = rw (length_push l.yielded c.in-Some.word)
+          (read_more (words c.args.line.now) (length l.yielded) (vec_items l.found) l.invariant.read c.in-Some.word.now turn c.in-Some-number.n (vec_items c.push.new.self) (search rules) (search rules));
+    }
+
+pub returns : goal.returns
+returns c =
+    let l = c.loop-word in
+    let end = YieldsList-end l.invariant.given l.yielded l.word-iterator l.yielded_by c.next.result c.next.new.self c.in-None.is c.next.ensures.steps in
+    ap (map number_of) (sym (take_all (length l.yielded) (words c.args.line.now) (omega (arith, end.1)))) ∙ l.invariant.read

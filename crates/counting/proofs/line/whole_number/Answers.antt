@@ -1,8 +1,8 @@
-use Rattle.std.proofs.Common.{◌≡◌, ℕ, true, List, [], ◌∷◌, ◌++◌, get_or, ap, arith, rules}
+use Rattle.std.proofs.Common.{◌≡◌, ℕ, true, List, [], ◌∷◌, ◌++◌, get_or, Result, Ok, Err, MatchOption, ap, arith, rules}
+use Rattle.std.specs.Result.{OkIff, result_ok}
 use lib.Utf8.{encode}
 use Rattle.std.specs.Str.{all_ascii_digits}
 use Rattle.std.proofs.lemmas.Str.Parse.{IsNumeralModel, numerals_by_fold, parse_plain}
-use Rattle.std.proofs.lemmas.Result.{OkIff-at_ok, OkIff-at_err}
 use Rattle.counting.specs.Lines.{WholeNumber, decimal_after, decimal_value}
 use Rattle.counting.proofs.line.whole_number.Goals as goal
 
@@ -16,16 +16,14 @@ unfolding encode
 no_plus [] h e = omega arith
 no_plus (b ∷ bs) h e = h bs (ap (λ (x : ℕ). x ∷ bs) e)
 
-pub returns-in-Ok : goal.returns-in-Ok
-returns-in-Ok c =
-    let bs = c.args.text.now in
-    let read = parse_plain own 32 bs c.parse.result c.parse.ensures.value.0 (no_plus bs c.if-starts_with.ensures.cases) in
-    let told : WholeNumber bs × (c.in-Ok.n ≡ decimal_value bs) = OkIff-at_ok c.parse.result (WholeNumber bs) (decimal_value bs) c.in-Ok.n read c.in-Ok.is in
-    search rules
+-- what is read, as an option
+told : {E : Type 0} (P : Type 0) (v : ℕ) (r : Result ℕ E) → OkIff r P v → MatchOption (result_ok r) (P → ⊥) (λ k. P × (k ≡ v))
+told P v (Ok n) read = read
+told P v (Err e) read = read
 
-pub returns-in-Err : goal.returns-in-Err
-returns-in-Err c =
+pub returns : goal.returns
+returns c =
     let bs = c.args.text.now in
     let read = parse_plain own 32 bs c.parse.result c.parse.ensures.value.0 (no_plus bs c.if-starts_with.ensures.cases) in
-    let refused : WholeNumber bs → ⊥ = OkIff-at_err c.parse.result (WholeNumber bs) (decimal_value bs) c.in-Err.field-0 read c.in-Err.is in
+    let number = told (WholeNumber bs) (decimal_value bs) c.parse.result read in
     search rules

@@ -22,8 +22,8 @@ loop-i-init g c = record {
       (reachable_small m ps small last) (reached last (omega arith)) in
       let none : 0 ≡ length ps - suc last = omega arith in
       let live = subst (λ (d : ℕ). HoldsEach c.last_layer-live.result (Through m ps allowed d last)) none
-      (through_last m ps allowed last g.T.Tally.states c.ending_states-ending.result c.load.result c.last_layer-live.result layer
-      (reachable_few m ps g.T.Tally.states (g.met.T.Tally.starts t) (g.met.T.Tally.steps t) last) c.ending_states-ending.ensures
+      (through_last m ps allowed last g.T.Tally.STATES c.ending_states-ending.result c.load.result c.last_layer-live.result layer
+      (reachable_few m ps g.T.Tally.STATES (g.met.T.Tally.laws.starts t) (g.met.T.Tally.laws.steps t) last) c.ending_states-ending.ensures
       (search rules)) in (
         live,
         λ j l. stored_other old new last j (Reachable m ps j) c.store.ensures.below c.store.ensures.above (omega arith) (reached j (omega arith)),

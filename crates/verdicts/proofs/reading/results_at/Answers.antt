@@ -16,7 +16,7 @@ loop-s-preserved g c =
     let F : ℕ → ℕ → Type 0 = λ s k. (g.T.Tally.machine c.args.tally.now).result s ≡ k in
     let k : ℕ = c.result.result in
     let is : (g.T.Tally.machine t).result s ≡ k = search rules in
-    let small : k < 64 = omega (arith, is, g.met.T.Tally.results t s) in
+    let small : k < 64 = omega (arith, is, g.met.T.Tally.laws.results t s) in
     let joined = joined_one 64 c.loop-s.results c.with-results.result k (F s) c.with-results.ensures small (λ j. (λ e. sym e ∙ is, λ e. is ∙ sym e)) in
     gather_more F c.into_iter-s-iterator.result.rest 64 c.loop-s.s-iterator.rest c.next.new.self.rest s c.loop-s.results c.with-results.result
     c.in-Some.ensures.steps joined c.loop-s.invariant

@@ -14,7 +14,7 @@ loop-s-preserved g c =
     let F : ℕ → ℕ → Type 0 = λ s t. (g.Self.Tally.machine c.args.self.now).step s c.args.v c.args.w ≡ t in
     let m : ℕ = c.step.result in
     let is : (g.Self.Tally.machine t).step s c.args.v c.args.w ≡ m = search rules in
-    let small : m < 64 = omega (arith, is, g.met.Self.Tally.steps t s c.args.v c.args.w, g.met.Self.Tally.few) in
+    let small : m < 64 = omega (arith, is, g.met.Self.Tally.laws.steps t s c.args.v c.args.w, g.met.Self.Tally.laws.few) in
     let joined = joined_one 64 c.loop-s.states c.with-states.result m (F s) c.with-states.ensures small (λ k. (λ e. sym e ∙ is, λ e. is ∙ sym e)) in
     gather_more F c.args.set 64 c.loop-s.s-iterator.rest c.next.new.self.rest s c.loop-s.states c.with-states.result
     c.in-Some.ensures.steps joined c.loop-s.invariant
