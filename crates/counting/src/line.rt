@@ -19,12 +19,8 @@ fn number(word: &[u8]) -> Option<u32>
 {
     let mut value = 0u32;
     for b in word {
-        if !b.is_ascii_digit() {
-            return None;
-        }
-        value = value
-            .saturating_mul(10)
-            .saturating_add(u32::from(*b - b'0'));
+        let digit = char::from(*b).to_digit(10)?;
+        value = value.saturating_mul(10).saturating_add(digit);
     }
     Some(value)
 }
