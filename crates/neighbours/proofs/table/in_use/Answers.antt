@@ -1,6 +1,6 @@
-use native.Mathlib.Omega.{arith}
-use Rattle.words.proofs.Membership.{holds_zero}
+use Rattle.std.proofs.Common.{rules}
+use Rattle.words.proofs.Bits.{bit_zero}
 use Rattle.neighbours.proofs.table.in_use.Goals as goal
 
 pub loop-palette-init : goal.loop-palette-init
-loop-palette-init c v = (λ i. absurd ((holds_zero v).0 i), λ t. absurd (omega (arith, t.1.0)))
+loop-palette-init c = search (rules, bit_zero)
