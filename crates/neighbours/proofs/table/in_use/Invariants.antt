@@ -1,5 +1,4 @@
-use Prim.Native.Nat.{ℕ, ◌<◌}
-use lib.ListN.{get_or}
+use Rattle.std.proofs.Common.{ℕ, ◌<◌, get_or}
 use Rattle.words.specs.Sets.{In, Holds}
 use Rattle.neighbours.proofs.table.in_use.Given as goal
 
