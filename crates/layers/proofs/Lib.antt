@@ -1,4 +1,3 @@
 mod Filling
 pub mod Passing
 pub mod Rows
-pub mod Storing

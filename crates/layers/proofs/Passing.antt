@@ -1,7 +1,7 @@
 -- One layer from the next to it: what a step of either pass makes of what the words hold. Assumes nothing.
-use Rattle.std.proofs.Common.{◌≡◌, ℕ, zero, suc, ◌+◌, ◌*◌, ◌^◌, ◌<◌, ◌≤◌, true, List, length, get_or, sym, refl, subst, inl, inr, arith}
+use Rattle.std.proofs.Common.{◌≡◌, ℕ, zero, suc, ◌+◌, ◌*◌, ◌^◌, ◌<◌, true, List, length, get_or, sym, refl, subst, inl, inr, arith}
 use Rattle.std.proofs.lemmas.List.{get_or_past}
-use Rattle.std.proofs.lemmas.Bool.{cases_lt}
+use Rattle.std.proofs.lemmas.Bool.{cases_eq, cases_lt}
 use Rattle.words.specs.Sets.{In, Holds, HoldsEach}
 use Rattle.words.proofs.Bits.{in_below}
 use Rattle.words.proofs.Membership.{holds_zero}
@@ -9,6 +9,7 @@ use Rattle.neighbours.specs.Pairs.{PairInUse}
 use Rattle.layers.specs.Layers.{Arrives, Departs, Stored}
 use Rattle.layers.specs.Passes.{Reachable, Through}
 use Rattle.layers.specs.Rows.{Model}
+use Rattle.layers.specs.Scratch.{IsLoaded, Stores}
 
 module _ (m : Model) (ps : List ℕ) where
   -- what can be reached at a part is in its palette
@@ -108,23 +109,25 @@ module _ (m : Model) (ps : List ℕ) where
 -- ---- the words of a part as a layer of their own, and back
 
 -- a layer that was loaded holds what the words of its part hold
-pub loaded : (words layer : List ℕ) (i : ℕ) (P : ℕ → ℕ → Type 0) → length layer ≡ 32 → ((v : ℕ) → v < 32 → get_or layer v 0 ≡ get_or words (32 * i + v) 0)
-    → ((v s : ℕ) → P v s → v < 32) → Stored words i P → HoldsEach layer P
-loaded words layer i P size same small h v = elim (cases_lt v 32) [
-  | inl inside ↦ subst (λ (w : ℕ). Holds w (P v)) (sym (same v inside)) (h v inside)
-  | inr past ↦ subst (λ (w : ℕ). Holds w (P v)) (sym (get_or_past layer v 0 (omega arith)))
+pub loaded : {words layer : List ℕ} {i : ℕ} → IsLoaded i words layer → (P : ℕ → ℕ → Type 0) → ((v s : ℕ) → P v s → v < 32) → Stored words i P
+    → HoldsEach layer P
+loaded {words} {layer} {i} load P small h v = elim (cases_lt v 32) [
+  | inl inside ↦ subst (λ (w : ℕ). Holds w (P v)) (sym (load.same v inside)) (h v inside)
+  | inr past ↦ subst (λ (w : ℕ). Holds w (P v)) (sym (get_or_past layer v 0 (omega (arith, load.size))))
       (λ s. (λ i. absurd ((holds_zero s).0 i), λ p. absurd (omega (arith, small v s p))))
 ]
 
--- and the words of a part hold what the layer that was stored there holds
-pub stored : (words layer : List ℕ) (i : ℕ) (P : ℕ → ℕ → Type 0) → ((v : ℕ) → v < 32 → get_or words (32 * i + v) 0 ≡ get_or layer v 0)
-    → HoldsEach layer P → Stored words i P
-stored words layer i P same h v inside = subst (λ (w : ℕ). Holds w (P v)) (sym (same v inside)) (h v)
-
--- the words of another part hold what they held
-pub stored_other : (old new : List ℕ) (i j : ℕ) (P : ℕ → ℕ → Type 0) → ((k : ℕ) → k < 32 * i → get_or new k 0 ≡ get_or old k 0)
-    → ((k : ℕ) → 32 * i + 32 ≤ k → get_or new k 0 ≡ get_or old k 0) → (j ≡ i → ⊥) → Stored old j P → Stored new j P
-stored_other old new i j P below above other h v inside = subst (λ (w : ℕ). Holds w (P v)) (sym same) (h v inside)
+-- the words of a part where no layer was stored hold what they held
+pub stored_other : {old new layer : List ℕ} {i : ℕ} → Stores i layer old new → (P : ℕ → ℕ → Type 0) (j : ℕ) → (j ≡ i → ⊥) → Stored old j P → Stored new j P
+stored_other {old} {new} {layer} {i} store P j other h v inside = subst (λ (w : ℕ). Holds w (P v)) (sym same) (h v inside)
   where
     same : get_or new (32 * j + v) 0 ≡ get_or old (32 * j + v) 0
-    same = elim (cases_lt j i) [ inl l ↦ below (32 * j + v) (omega arith) | inr l ↦ above (32 * j + v) (omega arith) ]
+    same = elim (cases_lt j i) [ inl l ↦ store.below (32 * j + v) (omega arith) | inr l ↦ store.above (32 * j + v) (omega arith) ]
+
+-- those of the part where one was stored hold what the layer holds
+pub stored : {old new layer : List ℕ} {i : ℕ} → Stores i layer old new → (P : ℕ → ℕ → ℕ → Type 0) → HoldsEach layer (P i)
+    → (j : ℕ) → ((j ≡ i → ⊥) → Stored old j (P j)) → Stored new j (P j)
+stored {old} {new} {layer} {i} store P h j others = elim (cases_eq j i) [
+  | inl e ↦ subst (λ (q : ℕ). Stored new q (P q)) (sym e) (λ v inside. subst (λ (w : ℕ). Holds w (P i v)) (sym (store.here v inside)) (h v))
+  | inr ne ↦ stored_other store (P j) j ne (others ne)
+]

@@ -1,12 +1,15 @@
 -- A state is live exactly where the two passes find it. Assumes nothing.
-use Rattle.std.proofs.Common.{◌≡◌, ℕ, zero, suc, ◌+◌, ◌<◌, ◌≤◌, true, List, length, get_or, take, set, sym, ap, ◌∙◌, subst, subst₂, inl, inr, add-one, arith}
+use Rattle.std.proofs.Common.{◌≡◌, ℕ, zero, suc, ◌+◌, ◌-◌, ◌*◌, ◌<◌, ◌≤◌, true, List, length, get_or, take, set, sym, ap, ◌∙◌, subst, subst₂, inl, inr, add-one, arith}
 use Rattle.std.proofs.lemmas.List.{length-set, length-take-le, get_or-set_same, get_or-set_other, get_or-take, take_all, take-take, take-set-le}
 use Rattle.std.proofs.lemmas.Bool.{cases_eq}
 use Rattle.words.specs.Sets.{In}
+use Rattle.words.proofs.Walking.{holds_like}
 use Rattle.tallies.specs.Machines.{state}
 use Rattle.tallies.proofs.Reading.{state_one, state_more}
 use Rattle.layers.specs.Rows.{Model, Complete, Live}
 use Rattle.layers.specs.Passes.{Reachable, Completable, Through}
+use Rattle.layers.specs.Layers.{Stored}
+use Rattle.layers.specs.Scratch.{HasRoom, Lives}
 
 -- the strip has room for a row, and its parts up to i are chosen and joined; v is the last of them and s the tally after it
 pub record Front (m : Model) (ps strip : List ℕ) (i v s : ℕ) : Type 0 where
@@ -158,3 +161,15 @@ module _ (m : Model) (ps : List ℕ) (allowed : ℕ) where
   through_of d i v s e (xs, (whole, at, tally)) =
       subst₂ (λ (a b : ℕ). Through m ps allowed d i a b) at (rw add-one at tally)
       (reachable_of xs whole i (omega arith), completable_of xs whole d i (omega arith))
+
+  -- words that hold what both passes find hold the live states
+  pub lives_of : (words : List ℕ) → HasRoom (length ps) words → ((i : ℕ) → i < length ps → Stored words i (Through m ps allowed (length ps - suc i) i))
+      → Lives m ps allowed words
+  lives_of words room through = record {
+    room = room;
+    live = λ i h v l.
+        let d : ℕ = length ps - suc i in
+        let e : suc i + d ≡ length ps = omega arith in
+        holds_like (get_or words (32 * i + v) 0) (Through m ps allowed d i v) (Live m ps allowed i v) (through i h v l)
+        (λ s. (live_of d i v s e, through_of d i v s e));
+  }

@@ -75,6 +75,7 @@ pub(crate) fn backward<T: Tally>(
     let ending = ending_states(tally, allowed);
     let mut live = last_layer(load(scratch, last), *palette, ending);
     store(scratch, last, live);
+    // By index and with a name for the result, as in the forward pass.
     for i in (0..last).rev() {
         let layer = load(scratch, i);
         let retained = retain(tally, neighbours, layer, palettes[i], live, palettes[i + 1]);

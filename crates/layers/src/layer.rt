@@ -10,6 +10,7 @@ pub(crate) fn layer_of<F: Fn(u32) -> u64>(palette: u32, states: F) -> [u64; 32]
     ensures { IsLaid (F.post states) palette result }
 {
     let mut layer = [0; 32];
+    // array::from_fn is no plainer: it asks at all 32 numbers, and its proof is an induction of its own over the calls.
     for v in members(palette) {
         layer[v as usize] = states(v);
     }

@@ -52,7 +52,7 @@ pub fn write_live<R: NeighbourRule, T: Tally>(
     problem: &Problem<R, T>,
     scratch: &mut [u64],
 ) -> Result<(), Shortage>
-    ensures live { MatchResult result (λ _. Lives (model (R.pairs problem.now.rule.now) (T.machine problem.now.tally.now)) problem.now.palettes.now problem.now.allowed scratch.new) (λ e. (e ≡ Scratch) × (length scratch.old < 32 * length problem.now.palettes.now) × (scratch.new ≡ scratch.old)) }
+    ensures live { let m = model (R.pairs problem.now.rule.now) (T.machine problem.now.tally.now) in let ps = problem.now.palettes.now in MatchResult result (λ _. Lives m ps problem.now.allowed scratch.new) (λ e. (e ≡ Scratch) × (length scratch.old < 32 * length ps) × (scratch.new ≡ scratch.old)) }
     ensures rest { SameFrom (32 * length problem.now.palettes.now) scratch.new scratch.old }
 {
     check_scratch(problem.palettes, scratch)?;

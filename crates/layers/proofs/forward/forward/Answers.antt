@@ -1,10 +1,8 @@
-use Rattle.std.proofs.Common.{◌≡◌, ℕ, ◌+◌, ◌-◌, sym, refl, ◌∙◌, subst, inl, inr, arith, rules}
-use Rattle.std.proofs.lemmas.Bool.{cases_eq}
+use Rattle.std.proofs.Common.{◌≡◌, ℕ, ◌+◌, ◌-◌, refl, ◌∙◌, subst, arith, rules}
 use Rattle.words.specs.Sets.{HoldsEach}
-use Rattle.layers.specs.Layers.{Stored}
 use Rattle.layers.specs.Passes.{Reachable}
 use Rattle.layers.specs.Rows.{Model, model}
-use Rattle.layers.proofs.Passing.{stored, stored_other, reach_more}
+use Rattle.layers.proofs.Passing.{stored, reach_more}
 use Rattle.layers.proofs.forward.forward.Goals as goal
 
 pub loop-i-init : goal.loop-i-init
@@ -14,10 +12,7 @@ loop-i-init g c = record {
       let ps = c.args.palettes.now in
       let made : HoldsEach c.first_layer-layer.result (Reachable m ps 0) = search rules in (
         made,
-        λ j l.
-            let first : j ≡ 0 = omega arith in
-            subst (λ (q : ℕ). Stored c.store.new.scratch q (Reachable m ps q)) (sym first)
-            (stored c.store.new.scratch c.first_layer-layer.result 0 (Reachable m ps 0) c.store.ensures.here made),
+        λ j l. stored c.store.ensures (Reachable m ps) made j (λ other. absurd (omega arith)),
       );
   rest = λ k h. refl;
 }
@@ -33,12 +28,7 @@ loop-i-preserved g c = record {
       before.0 c.advance-next.ensures in
       let e : k ≡ k + 1 - 1 = omega arith in (
         subst (λ (q : ℕ). HoldsEach c.advance-next.result (Reachable m ps q)) e next,
-        λ j l. elim (cases_eq j k) [
-          | inl e ↦ subst (λ (q : ℕ). Stored c.store-in-loop-i.new.scratch q (Reachable m ps q)) (sym e)
-              (stored c.store-in-loop-i.new.scratch c.advance-next.result k (Reachable m ps k) c.store-in-loop-i.ensures.here next)
-          | inr ne ↦ stored_other c.loop-i.scratch c.store-in-loop-i.new.scratch k j (Reachable m ps j) c.store-in-loop-i.ensures.below
-              c.store-in-loop-i.ensures.above ne (before.1 j (omega arith))
-        ],
+        λ j l. stored c.store-in-loop-i.ensures (Reachable m ps) next j (λ other. before.1 j (omega arith)),
       );
   rest = λ q h. c.store-in-loop-i.ensures.above q (omega arith) ∙ c.loop-i.invariant.rest q h;
 }

@@ -1,5 +1,4 @@
-use mathlib.Core.Path.{◌≡◌}
-use mathlib.Core.Bool.{true}
+use Rattle.std.proofs.Common.{◌≡◌, true}
 use Rattle.words.proofs.Walking.{Gathering}
 use Rattle.neighbours.proofs.table.row_of.Given as goal
 

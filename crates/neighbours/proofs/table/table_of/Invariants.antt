@@ -1,6 +1,4 @@
-use mathlib.Core.Path.{◌≡◌}
-use mathlib.Core.Bool.{true}
-use lib.ListN.{length}
+use Rattle.std.proofs.Common.{◌≡◌, true, length}
 use Rattle.words.specs.Sets.{In}
 use Rattle.words.proofs.Walking.{Laying}
 use Rattle.neighbours.proofs.table.table_of.Given as goal
