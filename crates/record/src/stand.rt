@@ -5,13 +5,13 @@ ghost use Rattle.record.specs.Stands.{is_blank, stand_number};
 #[derive(Clone, Copy, PartialEq, Eq, Debug)]
 pub enum Stand {
     // no row has been laid
-    Blank,
+    Blank = 0,
     // what can still stand is not known
-    Open,
+    Open = 1,
     // the palettes have exactly what can still stand
-    Settled,
+    Settled = 2,
     // no row can be completed
-    Dead,
+    Dead = 3,
 }
 
 impl Stand {
@@ -19,12 +19,7 @@ impl Stand {
     pub fn number(self) -> u32
         ensures { result ≡ stand_number self }
     {
-        match self {
-            Stand::Blank => 0,
-            Stand::Open => 1,
-            Stand::Settled => 2,
-            Stand::Dead => 3,
-        }
+        self as u32
     }
 
     // Whether there is no row yet.
