@@ -1,5 +1,5 @@
 // A blank record, and a row laid into it.
-ghost use Rattle.std.specs.Prelude.{◌≡◌, ℕ, ◌≤◌, length, Decides, slice_index};
+ghost use Rattle.std.specs.Prelude.{◌≡◌, ℕ, ◌≤◌, ◌↔◌, length, IsTrue, slice_index};
 ghost use Rattle.words.specs.Sets.{In};
 ghost use Rattle.record.specs.Calls.{Lays, NothingLaid};
 ghost use Rattle.record.specs.Refusals.{any_too_high, lay_refusal, out_of_range, too_high};
@@ -21,13 +21,13 @@ const MOST_HATCHINGS: u32 = 32;
 fn is_out_of_range(most: u32, k: u32) -> bool
     ensures { result ≡ out_of_range most k }
 {
-    k == 0 || k > most
+    !(1..=most).contains(&k)
 }
 
 // Whether a palette has a hatching at or above d.
 fn is_too_high(d: u32, palette: u32) -> bool
     ensures test { result ≡ too_high d palette }
-    ensures meaning { Decides result ((v : ℕ) × ((d ≤ v) × In v palette)) }
+    ensures meaning { IsTrue result ↔ ((v : ℕ) × ((d ≤ v) × In v palette)) }
 {
     palette.lowest_from(d).is_some()
 }
@@ -36,12 +36,7 @@ fn is_too_high(d: u32, palette: u32) -> bool
 fn any_too_high(d: u32, palettes: &[u32]) -> bool
     ensures { result ≡ any_too_high d palettes.now }
 {
-    for palette in palettes {
-        if is_too_high(d, *palette) {
-            return true;
-        }
-    }
-    false
+    palettes.iter().any(|palette| is_too_high(d, *palette))
 }
 
 // The palettes in the places of a record, with 0 behind the last.
