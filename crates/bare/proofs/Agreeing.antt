@@ -7,9 +7,9 @@ use Rattle.tallies.specs.Machines.{outcome}
 use Rattle.record.specs.declared.record.Record.{Record}
 use Rattle.record.specs.declared.stand.Stand.{Stand}
 use Rattle.record.specs.declared.stand.Stand.TheVariants.{Blank, Open, Settled, Dead}
-use Rattle.record.specs.declared.undo.Saved.{Saved}
+use Rattle.record.specs.declared.moment.Moment.{Moment}
 use Rattle.record.specs.declared.undo.UndoTable.{UndoTable}
-use Rattle.record.specs.Calls.{SameSize, SameMarks, saved_of}
+use Rattle.record.specs.Calls.{SameSize, SameMarks}
 use Rattle.record.specs.Copies.{no_copy, copy_of}
 use Rattle.record.specs.Stands.{is_blank, OpensIf}
 use Rattle.layers.specs.Rows.{Model}
@@ -44,14 +44,14 @@ opens_like P Q Dead t laid either exact opens = (λ q. opens.0 ((exact tt).1 q),
 -- ---- points
 
 -- a row of n parts has s and then t: it loses the complete rows of which X is true, and is open where P is; where P is not, nothing falls
-pub record Loses (m : Model) (n : ℕ) (X : List ℕ → Type 0) (P : Type 0) (s t : Saved) : Type 0 where
+pub record Loses (m : Model) (n : ℕ) (X : List ℕ → Type 0) (P : Type 0) (s t : Moment) : Type 0 where
   pub rows : Fewer m X (take n s.palettes) s.results (take n t.palettes) t.results
   pub opens : OpensIf P s.stand t.stand
   pub hatchings : (P → ⊥) → (i v : ℕ) → Iff (In v (get_or t.palettes i 0)) (In v (get_or s.palettes i 0))
   pub results : (P → ⊥) → (k : ℕ) → Iff (In k t.results) (In k s.results)
 
 -- it agrees still where the bare record loses the same rows, and P tells of a judged row whether it loses any
-pub agrees_fewer : {m : Model} {n : ℕ} {p : Point} {s t : Saved} {qs : List ℕ} {r : ℕ} {X : List ℕ → Type 0} {P : Type 0}
+pub agrees_fewer : {m : Model} {n : ℕ} {p : Point} {s t : Moment} {qs : List ℕ} {r : ℕ} {X : List ℕ → Type 0} {P : Type 0}
     → PointAgrees m n p s → Loses m n X P s t → length qs ≡ n → Fewer m X p.palettes p.results qs r
     → (Judged p.stand → Iff P (SomeRow m p.palettes p.results X))
     → PointAgrees m n (record { palettes = qs; results = r; stand = t.stand }) t
@@ -86,7 +86,7 @@ marks_like m n (p ∷ older) undo undo' same agree = (
 )
 
 -- one more mark, and its copy put behind those that are held
-pub marks_more : {m : Model} {n : ℕ} {p : Point} (points : List Point) {s : Saved} (undo undo' : UndoTable)
+pub marks_more : {m : Model} {n : ℕ} {p : Point} (points : List Point) {s : Moment} (undo undo' : UndoTable)
     → undo'.saved ≡ set undo.saved (length points) s → length points < length undo.saved
     → PointAgrees m n p s → MarksAgree m n points undo → MarksAgree m n (p ∷ points) undo'
 marks_more {m} {n} points {s} undo undo' put room now agree = (
@@ -98,7 +98,7 @@ marks_more {m} {n} points {s} undo undo' put room now agree = (
 
 -- a row with no mark that is neither settled nor dead agrees with what was laid
 pub agrees_laid : (m : Model) (a : Record) (n d results : ℕ) (palettes : List ℕ) (stand : Stand) → (Judged stand → ⊥) → a.n ≡ n → a.d ≡ d
-    → length palettes ≡ n → take n a.palettes ≡ palettes → a.results ≡ results → a.stand ≡ stand → a.marks ≡ 0
+    → length palettes ≡ n → take n a.current.palettes ≡ palettes → a.current.results ≡ results → a.current.stand ≡ stand → a.marks ≡ 0
     → Agrees m (record { n = n; d = d; palettes = palettes; results = results; stand = stand; marks = [] }) a
 agrees_laid m a n d results palettes stand unjudged parts hatchings size front allowed stands held = record {
   parts = parts;
@@ -124,13 +124,13 @@ has_with b p marks = record { parts = refl; hatchings = refl; places = refl; all
 
 -- a row of the same size agrees with it where all that was changed agrees
 pub agrees_with : {m : Model} {b : Bare} {a a' : Record} (p : Point) (marks : List Point) → Agrees m b a → SameSize a a'
-    → PointAgrees m b.n p (saved_of a') → a'.marks ≡ length marks → MarksAgree m b.n marks a'.undo → Agrees m (with b p marks) a'
+    → PointAgrees m b.n p a'.current → a'.marks ≡ length marks → MarksAgree m b.n marks a'.undo → Agrees m (with b p marks) a'
 agrees_with p marks agrees size now held agree =
     record { parts = size.n ∙ agrees.parts; hatchings = size.d ∙ agrees.hatchings; now = now; held = held; marks = agree }
 
 -- so does one of the same marks too
 pub agrees_still : {m : Model} {b : Bare} {a a' : Record} (p : Point) → Agrees m b a → SameSize a a' → SameMarks a a'
-    → PointAgrees m b.n p (saved_of a') → Agrees m (with b p b.marks) a'
+    → PointAgrees m b.n p a'.current → Agrees m (with b p b.marks) a'
 agrees_still {m} {b} p agrees size same now =
     agrees_with p b.marks agrees size now (same.marks ∙ agrees.held)
     (subst (MarksAgree m b.n b.marks) (sym same.undo) agrees.marks)

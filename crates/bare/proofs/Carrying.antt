@@ -4,12 +4,13 @@ use Rattle.std.proofs.lemmas.List.{length-set, length-take, length-take-le, get_
 use Rattle.std.proofs.lemmas.Bool.{true≢false, cases_eq, leb-false, or_parts, not-false, eqb-true}
 use Rattle.words.specs.Sets.{bit, In}
 use Rattle.tallies.specs.Machines.{outcome}
+use Rattle.record.specs.declared.moment.Moment.{Moment}
 use Rattle.record.specs.declared.record.Record.{Record}
 use Rattle.record.specs.declared.refusal.Refusal.{Refusal}
 use Rattle.record.specs.declared.refusal.Refusal.TheVariants.{NoRow, WrongSize, NoPart, FullMarks, NoMark}
 use Rattle.record.specs.declared.stand.Stand.{Stand}
 use Rattle.record.specs.declared.stand.Stand.TheVariants.{Blank, Open}
-use Rattle.record.specs.Calls.{SameSize, SameMarks, NothingLaid, Lays, Withdraws, Limits, Saves, GoesBack, saved_of}
+use Rattle.record.specs.Calls.{SameSize, SameMarks, NothingLaid, Lays, Withdraws, Limits, Saves, GoesBack}
 use Rattle.record.specs.Refusals.{checked, out_of_range, lay_refusal, withdraw_refusal, limit_refusal, settle_refusal, mark_refusal, back_refusal}
 use Rattle.record.specs.Replies.{By, Replies}
 use Rattle.record.specs.Stands.{is_blank, OpensIf}
@@ -23,38 +24,39 @@ use Rattle.bare.proofs.Striking.{Fewer, SameRows, SomeRow, Struck, holds_less, n
 -- before the first lay
 pub agrees_blank : (m : Model) (a : Record) → NothingLaid a → Agrees m blank a
 agrees_blank m a nothing =
-    agrees_laid m a 0 0 0 [] Blank (λ judged. judged) nothing.n nothing.d refl refl nothing.results nothing.stand nothing.marks
+    agrees_laid m a 0 0 0 [] Blank (λ judged. judged) nothing.n nothing.d refl refl
+    (ap (λ (s : Moment). s.results) nothing.current) (ap (λ (s : Moment). s.stand) nothing.current) nothing.marks
 
 -- ---- what becomes of the row's complete rows
 
 module _ (m : Model) (a a' : Record) where
   -- those with v at the part fall
-  withdraw_loses : (n part v k : ℕ) → n ≤ length a.palettes → length a'.palettes ≡ length a.palettes → part < n → Withdraws a part v k a'
-      → Loses m n (λ xs. get_or xs part 0 ≡ v) (In v (get_or a.palettes part 0)) (saved_of a) (saved_of a')
+  withdraw_loses : (n part v k : ℕ) → n ≤ length a.current.palettes → length a'.current.palettes ≡ length a.current.palettes → part < n → Withdraws a part v k a'
+      → Loses m n (λ xs. get_or xs part 0 ≡ v) (In v (get_or a.current.palettes part 0)) a.current a'.current
   withdraw_loses n part v k room size inside call = record {
-    rows = rw call.results (fewer_struck (simp (length-take-le n a.palettes room) inside) (struck_take struck n inside));
+    rows = rw call.results (fewer_struck (simp (length-take-le n a.current.palettes room) inside) (struck_take struck n inside));
     opens = call.stand;
     hatchings = none_struck struck;
     results = λ _ k. rw call.results (λ i. i, λ i. i);
   }
     where
-      struck : Struck part v a.palettes a'.palettes
+      struck : Struck part v a.current.palettes a'.current.palettes
       struck = record { size = size; here = call.palette; others = call.others }
 
   -- those with the result fall
-  limit_loses : (n result k : ℕ) → Limits a result k a' → Loses m n (λ xs. outcome m.machine xs ≡ result) (In result a.results) (saved_of a) (saved_of a')
+  limit_loses : (n result k : ℕ) → Limits a result k a' → Loses m n (λ xs. outcome m.machine xs ≡ result) (In result a.current.results) a.current a'.current
   limit_loses n result k call = record {
-    rows = rw call.palettes (fewer_limited a.results a'.results result call.results);
+    rows = rw call.palettes (fewer_limited a.current.results a'.current.results result call.results);
     opens = call.stand;
     hatchings = λ _ i v. rw call.palettes (λ j. j, λ j. j);
-    results = none_less a.results result a'.results call.results;
+    results = none_less a.current.results result a'.current.results call.results;
   }
 
   -- none falls
-  settle_rows : (h k : ℕ) → length a'.palettes ≡ length a.palettes → Settles m a h k a'
-      → SameRows m (parts_of a) a.results (take a.n a'.palettes) a'.results
+  settle_rows : (h k : ℕ) → length a'.current.palettes ≡ length a.current.palettes → Settles m a h k a'
+      → SameRows m (parts_of a) a.current.results (take a.n a'.current.palettes) a'.current.results
   settle_rows h k size call = same_used (simp (length-take, size))
-      (λ i l. let inside : i < a.n = omega (arith, length-take a.n a.palettes) in rw (get_or-take a.n a'.palettes i 0 inside) (call.used i inside)) call.had
+      (λ i l. let inside : i < a.n = omega (arith, length-take a.n a.current.palettes) in rw (get_or-take a.n a'.current.palettes i 0 inside) (call.used i inside)) call.had
 
 -- ---- the calls
 
@@ -79,7 +81,7 @@ module _ (m : Model) (b : Bare) (a a' : Record) (agrees : Agrees m b a) where
 
   -- over one by which both lose the same complete rows
   carried_fewer : (qs : List ℕ) (r : ℕ) (X : List ℕ → Type 0) (P : Type 0) → is_blank b.stand ≡ false → P ⊎ (P → ⊥)
-      → Loses m b.n X P (saved_of a) (saved_of a') → length qs ≡ b.n → Fewer m X b.palettes b.results qs r
+      → Loses m b.n X P a.current a'.current → length qs ≡ b.n → Fewer m X b.palettes b.results qs r
       → (Judged b.stand → Iff P (SomeRow m b.palettes b.results X)) → SameSize a a' → SameMarks a a'
       → (c : Bare) × ((Has c b.n b.d qs r b.marks × OpensIf (SomeRow m b.palettes b.results X) b.stand c.stand) × Agrees m c a')
   carried_fewer qs r X P laid either loses size fewer exact same_size same_marks = (
@@ -87,43 +89,43 @@ module _ (m : Model) (b : Bare) (a a' : Record) (agrees : Agrees m b a) where
     (
       (
         has_with b now b.marks,
-        opens_like P (SomeRow m b.palettes b.results X) b.stand a'.stand laid either exact
-            (subst (λ (s : Stand). OpensIf P s a'.stand) agrees.now.stand loses.opens),
+        opens_like P (SomeRow m b.palettes b.results X) b.stand a'.current.stand laid either exact
+            (subst (λ (s : Stand). OpensIf P s a'.current.stand) agrees.now.stand loses.opens),
       ),
       agrees_still now agrees same_size same_marks (agrees_fewer agrees.now loses size fewer exact),
     ),
   )
     where
       now : Point
-      now = record { palettes = qs; results = r; stand = a'.stand }
+      now = record { palettes = qs; results = r; stand = a'.current.stand }
 
   -- lay: both have what is given, and no mark
   pub carries_lay : (n d results : ℕ) (palettes : List ℕ) (r : Result ℕ Refusal)
       → Replies (lay_refusal n d palettes) a r a' (Lays a n d results palettes)
       → (c : Bare) × (Lay b n d results palettes c × Agrees m c a')
   carries_lay n d results palettes r =
-      let size : length a'.palettes ≡ 60 = a'.places in
+      let size : length a'.current.palettes ≡ 60 = a'.places in
       carried r (lay_refusal n d palettes) (lay_refusal n d palettes) _ _ refl
       (λ none (k, (answer, call)).
       let right_size = (checks (out_of_range 60 n || out_of_range 32 d || not (eqb (length palettes) n)) WrongSize _ none).0 in
       let given : length palettes ≡ n = eqb-true (length palettes) n (not-false _ (or_parts (out_of_range 60 n || out_of_range 32 d) _ right_size).1) in
-      let whole : length (take n a'.palettes) ≡ n = length-take-le n a'.palettes (omega arith) in
-      let front = ext_get_or 0 (take n a'.palettes) palettes (omega arith) (λ i l. get_or-take n a'.palettes i 0 (omega arith) ∙ call.places i) in
+      let whole : length (take n a'.current.palettes) ≡ n = length-take-le n a'.current.palettes (omega arith) in
+      let front = ext_get_or 0 (take n a'.current.palettes) palettes (omega arith) (λ i l. get_or-take n a'.current.palettes i 0 (omega arith) ∙ call.places i) in
       (_, (refl, agrees_laid m a' n d results palettes Open (λ judged. judged) call.parts call.hatchings given front call.allowed call.stand call.marks)))
 
   -- withdraw: the rows with v at the part fall from both; once judged, v stood there exactly where one of them did
   pub carries_withdraw : (part v : ℕ) (r : Result ℕ Refusal)
-      → Replies (withdraw_refusal a.stand a.n a.d part v) a r a' (Withdraws a part v)
+      → Replies (withdraw_refusal a.current.stand a.n a.d part v) a r a' (Withdraws a part v)
       → (c : Bare) × (Withdraw m b part v c × Agrees m c a')
   carries_withdraw part v r =
-      let size : length a.palettes ≡ 60 = a.places in
-      let size' : length a'.palettes ≡ 60 = a'.places in
-      carried r (withdraw_refusal a.stand a.n a.d part v) (withdraw_refusal b.stand b.n b.d part v) _ _ (cc)
+      let size : length a.current.palettes ≡ 60 = a.places in
+      let size' : length a'.current.palettes ≡ 60 = a'.places in
+      carried r (withdraw_refusal a.current.stand a.n a.d part v) (withdraw_refusal b.stand b.n b.d part v) _ _ (cc)
       (λ none (k, (answer, call)).
       let laid = checks (is_blank b.stand) NoRow _ none in
       let inside : part < b.n = leb-false b.n part (checks (leb b.n part) NoPart _ laid.1).0 in
       let inside' : part < length b.palettes = omega (arith, agrees.now.size) in
-      carried_fewer (set b.palettes part (without (get_or b.palettes part 0) v)) b.results _ _ laid.0 (cases_eq (bit (get_or a.palettes part 0) v) 1)
+      carried_fewer (set b.palettes part (without (get_or b.palettes part 0) v)) b.results _ _ laid.0 (cases_eq (bit (get_or a.current.palettes part 0) v) 1)
       (withdraw_loses m a a' b.n part v k (omega arith) (omega arith) inside call)
       (length-set b.palettes part (without (get_or b.palettes part 0) v) ∙ agrees.now.size)
       (fewer_struck inside' (struck_set part v b.palettes inside'))
@@ -131,12 +133,12 @@ module _ (m : Model) (b : Bare) (a a' : Record) (agrees : Agrees m b a) where
       call.same_size call.same_marks)
 
   -- limit: so it is with the rows that have the result
-  pub carries_limit : (k : ℕ) (r : Result ℕ Refusal) → Replies (limit_refusal a.stand k) a r a' (Limits a k)
+  pub carries_limit : (k : ℕ) (r : Result ℕ Refusal) → Replies (limit_refusal a.current.stand k) a r a' (Limits a k)
       → (c : Bare) × (Limit m b k c × Agrees m c a')
   carries_limit k r =
-      carried r (limit_refusal a.stand k) (limit_refusal b.stand k) _ _ (cc)
+      carried r (limit_refusal a.current.stand k) (limit_refusal b.stand k) _ _ (cc)
       (λ none (left, (answer, call)).
-      carried_fewer b.palettes (without b.results k) _ _ (checks (is_blank b.stand) NoRow _ none).0 (cases_eq (bit a.results k) 1)
+      carried_fewer b.palettes (without b.results k) _ _ (checks (is_blank b.stand) NoRow _ none).0 (cases_eq (bit a.current.results k) 1)
       (limit_loses m a a' b.n k left call)
       agrees.now.size
       (fewer_limited b.results (without b.results k) k (holds_less b.results k))
@@ -145,15 +147,15 @@ module _ (m : Model) (b : Bare) (a a' : Record) (agrees : Agrees m b a) where
 
   -- settle: the complete rows remain, and the row has exactly what they have
   pub carries_settle : (words : ℕ) (r : Result (ℕ × ℕ) Refusal)
-      → By (settle_refusal a.stand a.n words) (λ e. (r ≡ Err e) × (a' ≡ a)) ((h : ℕ) × ((k : ℕ) × ((r ≡ Ok (h, k)) × Settles m a h k a')))
+      → By (settle_refusal a.current.stand a.n words) (λ e. (r ≡ Err e) × (a' ≡ a)) ((h : ℕ) × ((k : ℕ) × ((r ≡ Ok (h, k)) × Settles m a h k a')))
       → (c : Bare) × (Settle m b words c × Agrees m c a')
   carries_settle words r =
-      let size : length a.palettes ≡ 60 = a.places in
-      let size' : length a'.palettes ≡ 60 = a'.places in
-      carried r (settle_refusal a.stand a.n words) (settle_refusal b.stand b.n words) _ _ (cc)
+      let size : length a.current.palettes ≡ 60 = a.places in
+      let size' : length a'.current.palettes ≡ 60 = a'.places in
+      carried r (settle_refusal a.current.stand a.n words) (settle_refusal b.stand b.n words) _ _ (cc)
       (λ none (h, (k, (answer, call))).
-      let now : Point = record { palettes = b.palettes; results = b.results; stand = a'.stand } in
-      let rows : SameRows m b.palettes b.results (parts_of a) a.results = rw agrees.parts agrees.now.rows in (
+      let now : Point = record { palettes = b.palettes; results = b.results; stand = a'.current.stand } in
+      let rows : SameRows m b.palettes b.results (parts_of a) a.current.results = rw agrees.parts agrees.now.rows in (
         with b now b.marks,
         (
           (has_with b now b.marks, (λ x. call.settled (x.0, (rows x.0).0 x.1), λ impossible. call.dead (λ x. impossible (x.0, (rows x.0).1 x.1)))),
@@ -168,11 +170,11 @@ module _ (m : Model) (b : Bare) (a a' : Record) (agrees : Agrees m b a) where
       ))
 
   -- mark: what agrees now is saved by both
-  pub carries_mark : (r : Result ℕ Refusal) → Replies (mark_refusal a.stand a.marks) a r a' (Saves a)
+  pub carries_mark : (r : Result ℕ Refusal) → Replies (mark_refusal a.current.stand a.marks) a r a' (Saves a)
       → (c : Bare) × (Mark b c × Agrees m c a')
   carries_mark r =
       let size : length a.undo.saved ≡ 8 = a.copies in
-      carried r (mark_refusal a.stand a.marks) (mark_refusal b.stand (length b.marks)) _ _ (cc)
+      carried r (mark_refusal a.current.stand a.marks) (mark_refusal b.stand (length b.marks)) _ _ (cc)
       (λ none (k, (answer, call)).
       let laid = checks (is_blank b.stand) NoRow _ none in
       let inside : length b.marks < 8 = leb-false 8 (length b.marks) (checks (leb 8 (length b.marks)) FullMarks _ laid.1).0 in (
@@ -187,10 +189,10 @@ module _ (m : Model) (b : Bare) (a a' : Record) (agrees : Agrees m b a) where
       ))
 
   -- back: both have again what their youngest mark saved
-  pub carries_back : (r : Result ℕ Refusal) → Replies (back_refusal a.stand a.marks) a r a' (GoesBack a)
+  pub carries_back : (r : Result ℕ Refusal) → Replies (back_refusal a.current.stand a.marks) a r a' (GoesBack a)
       → (c : Bare) × (Back b c × Agrees m c a')
   carries_back r =
-      carried r (back_refusal a.stand a.marks) (back_refusal b.stand (length b.marks)) _ _ (cc)
+      carried r (back_refusal a.current.stand a.marks) (back_refusal b.stand (length b.marks)) _ _ (cc)
       (λ none (k, (answer, call)).
       let laid = checks (is_blank b.stand) NoRow _ none in
       let youngest = some_mark b.marks (checks (eqb (length b.marks) 0) NoMark _ laid.1).0 in

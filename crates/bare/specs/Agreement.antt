@@ -4,9 +4,8 @@ use Rattle.words.specs.Sets.{In}
 use Rattle.record.specs.declared.record.Record.{Record}
 use Rattle.record.specs.declared.stand.Stand.{Stand}
 use Rattle.record.specs.declared.stand.Stand.TheVariants.{Blank, Open, Settled, Dead}
-use Rattle.record.specs.declared.undo.Saved.{Saved}
+use Rattle.record.specs.declared.moment.Moment.{Moment}
 use Rattle.record.specs.declared.undo.UndoTable.{UndoTable}
-use Rattle.record.specs.Calls.{saved_of}
 use Rattle.record.specs.Copies.{copy_of}
 use Rattle.layers.specs.Rows.{Model, Complete, Uses, Yields}
 use Rattle.bare.specs.Bare.{Bare, Point, point}
@@ -23,7 +22,7 @@ Judged Settled = Unit {0}
 Judged Dead = Unit {0}
 
 -- What a row of n parts has, s, agrees with what the bare record has, p.
-pub record PointAgrees (m : Model) (n : ℕ) (p : Point) (s : Saved) : Type 0 where
+pub record PointAgrees (m : Model) (n : ℕ) (p : Point) (s : Moment) : Type 0 where
   pub stand : s.stand ≡ p.stand
   pub size : length p.palettes ≡ n
   -- they have the same complete rows
@@ -41,6 +40,6 @@ MarksAgree m n (p ∷ older) undo = PointAgrees m n p (copy_of undo (length olde
 pub record Agrees (m : Model) (b : Bare) (a : Record) : Type 0 where
   pub parts : a.n ≡ b.n
   pub hatchings : a.d ≡ b.d
-  pub now : PointAgrees m b.n (point b) (saved_of a)
+  pub now : PointAgrees m b.n (point b) a.current
   pub held : a.marks ≡ length b.marks
   pub marks : MarksAgree m b.n b.marks a.undo

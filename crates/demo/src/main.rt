@@ -32,7 +32,7 @@ fn show_row(rt: &HostRuntime, row: &DemoRow) -> io::Result<()> {
     for (i, laid) in LAID.iter().enumerate() {
         print!(rt; " |")?;
         for v in members(*laid) {
-            if i < 60 && row.record.palettes[i].contains(v) {
+            if i < 60 && row.record.current.palettes[i].contains(v) {
                 print!(rt; " {v} ")?;
             } else {
                 print!(rt; "({v})")?;

@@ -5,10 +5,11 @@ ghost use Rattle.record.specs.Calls.{Lays, NothingLaid};
 ghost use Rattle.record.specs.Refusals.{any_too_high, lay_refusal, out_of_range, too_high};
 ghost use Rattle.record.specs.Replies.{Replies};
 
+use crate::moment::Moment;
 use crate::record::Record;
 use crate::refusal::Refusal;
 use crate::stand::Stand;
-use crate::undo::{Saved, UndoTable};
+use crate::undo::UndoTable;
 use words::WordSet;
 
 // The most parts that a row can have.
@@ -54,21 +55,18 @@ impl Record {
     pub fn blank() -> Record
         ensures { NothingLaid result }
     {
-        let palettes = [0; 60];
-        let results = 0;
-        let stand = Stand::Blank;
-        let saved = [Saved {
-            palettes,
-            results,
-            stand,
-        }; 8];
-        let undo = UndoTable { saved };
+        let current = Moment {
+            palettes: [0; 60],
+            results: 0,
+            stand: Stand::Blank,
+        };
+        let undo = UndoTable {
+            saved: [current; 8],
+        };
         Record {
             n: 0,
             d: 0,
-            palettes,
-            results,
-            stand,
+            current,
             marks: 0,
             undo,
         }
@@ -87,12 +85,14 @@ impl Record {
         if any_too_high(d, palettes) {
             return Err(Refusal::HighPalette);
         }
-        let places = placed(palettes);
+        let current = Moment {
+            palettes: placed(palettes),
+            results,
+            stand: Stand::Open,
+        };
         self.n = n;
         self.d = d;
-        self.palettes = places;
-        self.results = results;
-        self.stand = Stand::Open;
+        self.current = current;
         self.marks = 0;
         Ok(n)
     }

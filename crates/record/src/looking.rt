@@ -12,21 +12,21 @@ use words::WordSet;
 impl Record {
     // The lowest hatching of a part's palette, at or above a number.
     pub fn look(&self, part: u32, number: u32) -> Result<Option<u32>, Refusal>
-        ensures { let a = self.now in By (look_refusal a.stand a.n part) (λ e. result ≡ Err e) ((found : Option ℕ) × ((result ≡ Ok found) × Looks a part number found)) }
+        ensures { let a = self.now in By (look_refusal a.current.stand a.n part) (λ e. result ≡ Err e) ((found : Option ℕ) × ((result ≡ Ok found) × Looks a part number found)) }
     {
-        if self.stand.is_blank() {
+        if self.current.stand.is_blank() {
             return Err(Refusal::NoRow);
         }
         if part >= self.n {
             return Err(Refusal::NoPart);
         }
-        Ok(self.palettes[part as usize].lowest_from(number))
+        Ok(self.current.palettes[part as usize].lowest_from(number))
     }
 
     // How the row stands.
     pub fn stand(&self) -> Stand
-        ensures { result ≡ self.now.stand }
+        ensures { result ≡ self.now.current.stand }
     {
-        self.stand
+        self.current.stand
     }
 }

@@ -22,8 +22,8 @@ by_less None refused accepted t = accepted t
 -- the palettes of a record have no number above 31
 pub parts_small : (a : Record) → Palettes (parts_of a)
 parts_small a i v member = elim (cases_lt i a.n) [
-  | inl inside ↦ omega (arith, a.hatchings, a.drawn i v (rw (get_or-take a.n a.palettes i 0 inside) at member))
-  | inr past ↦ absurd ((holds_zero v).0 (rw (get_or_past (parts_of a) i 0 (omega (arith, length-take a.n a.palettes))) at member))
+  | inl inside ↦ omega (arith, a.hatchings, a.drawn i v (rw (get_or-take a.n a.current.palettes i 0 inside) at member))
+  | inr past ↦ absurd ((holds_zero v).0 (rw (get_or_past (parts_of a) i 0 (omega (arith, length-take a.n a.current.palettes))) at member))
 ]
 
 module _ (m : Model) (ps : List ℕ) (allowed : ℕ) where

@@ -8,10 +8,10 @@ use Rattle.bare.specs.Settling.{total}
 
 -- each palette keeps what it had of the hatchings that have a word with a state, and k hatchings fall
 pub record Narrows (a : Record) (live : List ℕ) (k : ℕ) (b : Record) : Type 0 where
-  pub palettes : (i : ℕ) → i < a.n → Holds (slice_index b.palettes i) (λ v. In v (slice_index a.palettes i) × ((s : ℕ) × WordHas live i v s))
-  pub others : (i : ℕ) → a.n ≤ i → slice_index b.palettes i ≡ slice_index a.palettes i
-  pub fallen : total a.n a.palettes ≡ total a.n b.palettes + k
-  pub results : b.results ≡ a.results
-  pub stand : b.stand ≡ a.stand
+  pub palettes : (i : ℕ) → i < a.n → Holds (slice_index b.current.palettes i) (λ v. In v (slice_index a.current.palettes i) × ((s : ℕ) × WordHas live i v s))
+  pub others : (i : ℕ) → a.n ≤ i → slice_index b.current.palettes i ≡ slice_index a.current.palettes i
+  pub fallen : total a.n a.current.palettes ≡ total a.n b.current.palettes + k
+  pub results : b.current.results ≡ a.current.results
+  pub stand : b.current.stand ≡ a.current.stand
   pub same_size : SameSize a b
   pub same_marks : SameMarks a b

@@ -53,7 +53,7 @@ impl<R: NeighbourRule, T: Tally> Row<R, T> {
 
     // Takes a hatching out of a part's palette, and answers how many are left there.
     pub fn withdraw(&mut self, part: u32, hatching: u32) -> Result<u32, Refusal>
-        ensures reply { let a = self.old.record in Replies (withdraw_refusal a.stand a.n a.d part hatching) a result self.new.record (Withdraws a part hatching) }
+        ensures reply { let a = self.old.record in Replies (withdraw_refusal a.current.stand a.n a.d part hatching) a result self.new.record (Withdraws a part hatching) }
         ensures stays { Keeps self.old self.new }
         ensures carries { let m = model (R.NeighbourRule.pairs self.old.rule) (T.Tally.machine self.old.tally) in Carries m (λ x y. Withdraw m x part hatching y) self.old.record self.new.record }
     {
@@ -62,7 +62,7 @@ impl<R: NeighbourRule, T: Tally> Row<R, T> {
 
     // Takes a result out of those that are allowed, and answers how many are left.
     pub fn limit(&mut self, outcome: u32) -> Result<u32, Refusal>
-        ensures reply { let a = self.old.record in Replies (limit_refusal a.stand outcome) a result self.new.record (Limits a outcome) }
+        ensures reply { let a = self.old.record in Replies (limit_refusal a.current.stand outcome) a result self.new.record (Limits a outcome) }
         ensures stays { Keeps self.old self.new }
         ensures carries { let m = model (R.NeighbourRule.pairs self.old.rule) (T.Tally.machine self.old.tally) in Carries m (λ x y. Limit m x outcome y) self.old.record self.new.record }
     {
@@ -71,7 +71,7 @@ impl<R: NeighbourRule, T: Tally> Row<R, T> {
 
     // Saves the row as the youngest mark, and answers how many marks are held.
     pub fn mark(&mut self) -> Result<u32, Refusal>
-        ensures reply { let a = self.old.record in Replies (mark_refusal a.stand a.marks) a result self.new.record (Saves a) }
+        ensures reply { let a = self.old.record in Replies (mark_refusal a.current.stand a.marks) a result self.new.record (Saves a) }
         ensures stays { Keeps self.old self.new }
         ensures carries { let m = model (R.NeighbourRule.pairs self.old.rule) (T.Tally.machine self.old.tally) in Carries m (Mark) self.old.record self.new.record }
     {
@@ -80,7 +80,7 @@ impl<R: NeighbourRule, T: Tally> Row<R, T> {
 
     // Makes the row what the youngest mark saved, drops that mark, and answers how many marks are held.
     pub fn back(&mut self) -> Result<u32, Refusal>
-        ensures reply { let a = self.old.record in Replies (back_refusal a.stand a.marks) a result self.new.record (GoesBack a) }
+        ensures reply { let a = self.old.record in Replies (back_refusal a.current.stand a.marks) a result self.new.record (GoesBack a) }
         ensures stays { Keeps self.old self.new }
         ensures carries { let m = model (R.NeighbourRule.pairs self.old.rule) (T.Tally.machine self.old.tally) in Carries m (Back) self.old.record self.new.record }
     {
@@ -90,7 +90,7 @@ impl<R: NeighbourRule, T: Tally> Row<R, T> {
     // Strikes the hatchings and results that no complete row has, and answers how many of each fell.
     // The scratch gets the live states; its later words stay.
     pub fn settle(&mut self, scratch: &mut [u64]) -> Result<(u32, u32), Refusal>
-        ensures reply { let a = self.old.record in let m = model (R.NeighbourRule.pairs self.old.rule) (T.Tally.machine self.old.tally) in By (settle_refusal a.stand a.n (length scratch.old)) (λ e. (result ≡ Err e) × (self.new.record ≡ a) × (scratch.new ≡ scratch.old)) ((h : ℕ) × ((k : ℕ) × ((result ≡ Ok (h, k)) × Settles m a h k self.new.record × Lives m (parts_of a) a.results scratch.new × SameFrom (32 * a.n) scratch.new scratch.old))) }
+        ensures reply { let a = self.old.record in let m = model (R.NeighbourRule.pairs self.old.rule) (T.Tally.machine self.old.tally) in By (settle_refusal a.current.stand a.n (length scratch.old)) (λ e. (result ≡ Err e) × (self.new.record ≡ a) × (scratch.new ≡ scratch.old)) ((h : ℕ) × ((k : ℕ) × ((result ≡ Ok (h, k)) × Settles m a h k self.new.record × Lives m (parts_of a) a.current.results scratch.new × SameFrom (32 * a.n) scratch.new scratch.old))) }
         ensures stays { Keeps self.old self.new }
         ensures carries { let m = model (R.NeighbourRule.pairs self.old.rule) (T.Tally.machine self.old.tally) in Carries m (λ x y. Settle m x (length scratch.old) y) self.old.record self.new.record }
     {
@@ -99,14 +99,14 @@ impl<R: NeighbourRule, T: Tally> Row<R, T> {
 
     // The lowest hatching that stands at a part, at or above a number.
     pub fn look(&self, part: u32, number: u32) -> Result<Option<u32>, Refusal>
-        ensures { let a = self.now.record in By (look_refusal a.stand a.n part) (λ e. result ≡ Err e) ((found : Option ℕ) × ((result ≡ Ok found) × Looks a part number found)) }
+        ensures { let a = self.now.record in By (look_refusal a.current.stand a.n part) (λ e. result ≡ Err e) ((found : Option ℕ) × ((result ≡ Ok found) × Looks a part number found)) }
     {
         self.record.look(part, number)
     }
 
     // How the row stands.
     pub fn stand(&self) -> Stand
-        ensures { result ≡ self.now.record.stand }
+        ensures { result ≡ self.now.record.current.stand }
     {
         self.record.stand()
     }

@@ -23,10 +23,10 @@ fn narrow(row: &mut Record, live: &[u64]) -> u32
 {
     let mut fallen = 0;
     for i in 0..row.n {
-        let palette = row.palettes[i as usize];
+        let palette = row.current.palettes[i as usize];
         let rest = palette.intersection(used_at(live, i as usize));
         fallen += palette.count() - rest.count();
-        row.palettes[i as usize] = rest;
+        row.current.palettes[i as usize] = rest;
     }
     fallen
 }
@@ -46,14 +46,17 @@ fn judgement(live: &[u64]) -> Stand
 // Strikes from the record what its live states do not use or have, and answers how many hatchings and results fell.
 fn strike<T: Tally>(tally: &T, row: &mut Record, live: &[u64]) -> (u32, u32)
     requires { 0 < row.old.n }
-    ensures { let a = row.old in ((p : ℕ → ℕ → Bool) → Lives (model p (T.machine tally.now)) (parts_of a) a.results live.now → Settles (model p (T.machine tally.now)) a result.0 result.1 row.new) }
+    ensures { let a = row.old in ((p : ℕ → ℕ → Bool) → Lives (model p (T.machine tally.now)) (parts_of a) a.current.results live.now → Settles (model p (T.machine tally.now)) a result.0 result.1 row.new) }
 {
     let hatchings = narrow(row, live);
     let last = row.n as usize - 1;
-    let had = row.results.intersection(results_at(tally, live, last));
-    let results = row.results.count() - had.count();
-    row.results = had;
-    row.stand = judgement(live);
+    let had = row
+        .current
+        .results
+        .intersection(results_at(tally, live, last));
+    let results = row.current.results.count() - had.count();
+    row.current.results = had;
+    row.current.stand = judgement(live);
     (hatchings, results)
 }
 
@@ -65,13 +68,19 @@ pub fn settle<R: NeighbourRule, T: Tally>(
     row: &mut Record,
     scratch: &mut [u64],
 ) -> Result<(u32, u32), Refusal>
-    ensures { let a = row.old in let b = row.new in let m = model (R.pairs rule.now) (T.machine tally.now) in By (settle_refusal a.stand a.n (length scratch.old)) (λ e. (result ≡ Err e) × (b ≡ a) × (scratch.new ≡ scratch.old)) ((h : ℕ) × ((k : ℕ) × ((result ≡ Ok (h, k)) × Settles m a h k b × Lives m (parts_of a) a.results scratch.new × SameFrom (32 * a.n) scratch.new scratch.old))) }
+    ensures { let a = row.old in let b = row.new in let m = model (R.pairs rule.now) (T.machine tally.now) in By (settle_refusal a.current.stand a.n (length scratch.old)) (λ e. (result ≡ Err e) × (b ≡ a) × (scratch.new ≡ scratch.old)) ((h : ℕ) × ((k : ℕ) × ((result ≡ Ok (h, k)) × Settles m a h k b × Lives m (parts_of a) a.current.results scratch.new × SameFrom (32 * a.n) scratch.new scratch.old))) }
 {
-    if row.stand.is_blank() {
+    if row.current.stand.is_blank() {
         return Err(Refusal::NoRow);
     }
     let parts = row.n as usize;
-    let Ok(_) = write_live(rule, tally, &row.palettes[..parts], row.results, scratch) else {
+    let Ok(_) = write_live(
+        rule,
+        tally,
+        &row.current.palettes[..parts],
+        row.current.results,
+        scratch,
+    ) else {
         return Err(Refusal::ShortScratch);
     };
     Ok(strike(tally, row, scratch))

@@ -10,21 +10,21 @@ use Rattle.row.proofs.settling.narrow.Goals as goal
 pub overflow_sub-fallen : goal.overflow_sub-fallen
 overflow_sub-fallen c =
     let i = c.loop-i.i in
-    let within = size_within 32 c.intersection-rest.result (get_or c.loop-i.row.palettes i 0) (λ k j. ((c.intersection-rest.ensures k).0 j).0) in
+    let within = size_within 32 c.intersection-rest.result (get_or c.loop-i.row.current.palettes i 0) (λ k j. ((c.intersection-rest.ensures k).0 j).0) in
     search rules
 
 pub overflow_add-fallen : goal.overflow_add-fallen
 overflow_add-fallen c =
     let i = c.loop-i.i in
-    let fallen : c.loop-i.fallen ≤ 32 * i = omega (arith, total_le i c.args.row.now.palettes, c.loop-i.invariant.3) in
-    let more : c.count.result ≤ 32 = search (rules, size_le 32 (get_or c.loop-i.row.palettes i 0)) in
+    let fallen : c.loop-i.fallen ≤ 32 * i = omega (arith, total_le i c.args.row.now.current.palettes, c.loop-i.invariant.3) in
+    let more : c.count.result ≤ 32 = search (rules, size_le 32 (get_or c.loop-i.row.current.palettes i 0)) in
     search rules
 
 pub loop-i-preserved : goal.loop-i-preserved
 loop-i-preserved c =
     let i = c.loop-i.i in
-    let old : List ℕ = c.args.row.now.palettes in
-    let ps : List ℕ = c.loop-i.row.palettes in
+    let old : List ℕ = c.args.row.now.current.palettes in
+    let ps : List ℕ = c.loop-i.row.current.palettes in
     let rest : ℕ = c.intersection-rest.result in
     let inside : i < length ps = omega (arith, c.loop-i.invariant.0) in
     let here : get_or (set ps i rest) i 0 ≡ rest = get_or-set_same ps i rest 0 inside in

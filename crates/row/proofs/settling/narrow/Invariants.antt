@@ -8,11 +8,11 @@ use Rattle.row.proofs.settling.narrow.Given as goal
 -- the palettes below i are narrowed, and all else is as it was
 abbrev pub invariant-loop-i : goal.invariant-loop-i
 invariant-loop-i l =
-    (length l.row.palettes ≡ 60)
-    × ((j : ℕ) → j < l.i → Holds (get_or l.row.palettes j 0) (λ v. In v (get_or l.initial.row.palettes j 0) × ((s : ℕ) × WordHas l.live j v s)))
-    × ((j : ℕ) → l.i ≤ j → get_or l.row.palettes j 0 ≡ get_or l.initial.row.palettes j 0)
-    × (total l.i l.initial.row.palettes ≡ total l.i l.row.palettes + l.fallen)
-    × (l.row.results ≡ l.initial.row.results)
-    × (l.row.stand ≡ l.initial.row.stand)
+    (length l.row.current.palettes ≡ 60)
+    × ((j : ℕ) → j < l.i → Holds (get_or l.row.current.palettes j 0) (λ v. In v (get_or l.initial.row.current.palettes j 0) × ((s : ℕ) × WordHas l.live j v s)))
+    × ((j : ℕ) → l.i ≤ j → get_or l.row.current.palettes j 0 ≡ get_or l.initial.row.current.palettes j 0)
+    × (total l.i l.initial.row.current.palettes ≡ total l.i l.row.current.palettes + l.fallen)
+    × (l.row.current.results ≡ l.initial.row.current.results)
+    × (l.row.current.stand ≡ l.initial.row.current.stand)
     × SameSize l.initial.row l.row
     × SameMarks l.initial.row l.row

@@ -10,10 +10,10 @@ pub returns : goal.returns
 returns g c =
     let a = c.args.row.now in
     let lives = c.in-Ok.ensures.live in
-    let wide : length a.palettes ≡ 60 = a.places in
-    let parts : length (parts_of a) ≡ a.n = length-take-le a.n a.palettes (omega (arith, a.parts)) in
+    let wide : length a.current.palettes ≡ 60 = a.places in
+    let parts : length (parts_of a) ≡ a.n = length-take-le a.n a.current.palettes (omega (arith, a.parts)) in
     let same : length c.write_live.new.scratch ≡ length c.args.scratch.now = search rules in
-    let blank : is_blank a.stand ≡ false = search rules in
+    let blank : is_blank a.current.stand ≡ false = search rules in
     let room : ltb (length c.args.scratch.now) (32 * a.n) ≡ false = le-ltb (length c.args.scratch.now) (32 * a.n) (omega (arith, lives.room, parts, same)) in
     let rest : SameFrom (32 * a.n) c.write_live.new.scratch c.args.scratch.now =
     subst (λ (n : ℕ). SameFrom (32 * n) c.write_live.new.scratch c.args.scratch.now) parts c.in-Ok.ensures.rest in

@@ -13,6 +13,6 @@ returns g c =
       reply = search rules;
       stays = search rules;
       carries = λ x agrees. carries_settle m x self.«record» c.settle.new.row agrees (length c.args.scratch.now) c.settle.result
-          (by_less (settle_refusal self.«record».stand self.«record».n (length c.args.scratch.now)) (λ e t. (t.0, t.1)) (λ t. (t.0, (t.1.0, (t.1.1.0, t.1.1.1))))
+          (by_less (settle_refusal self.«record».current.stand self.«record».n (length c.args.scratch.now)) (λ e t. (t.0, t.1)) (λ t. (t.0, (t.1.0, (t.1.1.0, t.1.1.1))))
           c.settle.ensures);
     }
