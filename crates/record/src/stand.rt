@@ -1,6 +1,8 @@
 // How a row stands.
-ghost use Rattle.std.specs.Prelude.{◌≡◌};
-ghost use Rattle.record.specs.Stands.{is_blank, stand_number};
+ghost use Rattle.std.specs.Prelude.{◌≡◌, Some};
+ghost use Rattle.record.specs.Stands.{is_blank, stand_name, stand_number};
+
+use std::fmt;
 
 #[derive(Clone, Copy, PartialEq, Eq, Debug)]
 pub enum Stand {
@@ -27,5 +29,18 @@ impl Stand {
         ensures { result ≡ is_blank self }
     {
         matches!(self, Stand::Blank)
+    }
+}
+
+impl fmt::Display for Stand {
+    ghost output = { λ stand. Some (stand_name stand) };
+
+    fn fmt<W: fmt::Write>(&self, f: &mut fmt::Formatter<W>) -> fmt::Result {
+        match self {
+            Stand::Blank => f.write_str("blank"),
+            Stand::Open => f.write_str("open"),
+            Stand::Settled => f.write_str("settled"),
+            Stand::Dead => f.write_str("dead"),
+        }
     }
 }
