@@ -1,5 +1,5 @@
 // Settle: what no complete row uses or has is struck from the row.
-ghost use Rattle.std.specs.Prelude.{◌≡◌, ℕ, ◌*◌, ◌<◌, Bool, false, List, length, Ok, Err};
+ghost use Rattle.std.specs.Prelude.{◌≡◌, ℕ, ◌*◌, ◌<◌, ◌≤◌, Bool, false, List, length, Ok, Err};
 ghost use Rattle.layers.specs.Rows.{Model, model, Possible};
 ghost use Rattle.layers.specs.Scratch.{Lives, SameFrom};
 ghost use Rattle.record.specs.declared.stand.Stand.TheVariants.{Settled, Dead};
@@ -11,22 +11,22 @@ ghost use Rattle.bare.specs.Settling.{Settles, parts_of};
 ghost use Rattle.row.specs.Narrowing.{Narrows};
 
 use layers::write_live;
-use record::{Record, Refusal, Stand};
+use record::{Moment, Record, Refusal, Stand};
 use rules::NeighbourRule;
 use tallies::Tally;
 use verdicts::{is_possible, results_at, used_at};
 use words::WordSet;
 
 // Leaves in each palette what the live states use there, and answers how many hatchings fell.
-fn narrow(row: &mut Record, live: &[u64]) -> u32
-    ensures { Narrows row.old live.now result row.new }
+fn narrow(palettes: &mut [u32], live: &[u64]) -> u32
+    requires { length palettes.old ≤ 60 }
+    ensures { Narrows palettes.old live.now result palettes.new }
 {
     let mut fallen = 0;
-    for i in 0..row.n {
-        let palette = row.current.palettes[i as usize];
-        let rest = palette.intersection(used_at(live, i as usize));
+    for (i, palette) in palettes.iter_mut().enumerate() {
+        let rest = palette.intersection(used_at(live, i));
         fallen += palette.count() - rest.count();
-        row.current.palettes[i as usize] = rest;
+        *palette = rest;
     }
     fallen
 }
@@ -48,15 +48,17 @@ fn strike<T: Tally>(tally: &T, row: &mut Record, live: &[u64]) -> (u32, u32)
     requires { 0 < row.old.n }
     ensures { let a = row.old in ((p : ℕ → ℕ → Bool) → Lives (model p (T.machine tally.now)) (parts_of a) a.current.results live.now → Settles (model p (T.machine tally.now)) a result.0 result.1 row.new) }
 {
-    let hatchings = narrow(row, live);
+    let mut palettes = row.current.palettes;
+    let hatchings = narrow(&mut palettes[..row.n as usize], live);
     let last = row.n as usize - 1;
-    let had = row
-        .current
-        .results
-        .intersection(results_at(tally, live, last));
-    let results = row.current.results.count() - had.count();
-    row.current.results = had;
-    row.current.stand = judgement(live);
+    let allowed = row.current.results;
+    let had = allowed.intersection(results_at(tally, live, last));
+    let results = allowed.count() - had.count();
+    row.current = Moment {
+        palettes,
+        results: had,
+        stand: judgement(live),
+    };
     (hatchings, results)
 }
 
@@ -74,14 +76,13 @@ pub fn settle<R: NeighbourRule, T: Tally>(
         return Err(Refusal::NoRow);
     }
     let parts = row.n as usize;
-    let Ok(_) = write_live(
+    write_live(
         rule,
         tally,
         &row.current.palettes[..parts],
         row.current.results,
         scratch,
-    ) else {
-        return Err(Refusal::ShortScratch);
-    };
+    )
+    .map_err(|_| Refusal::ShortScratch)?;
     Ok(strike(tally, row, scratch))
 }
