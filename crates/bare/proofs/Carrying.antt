@@ -1,5 +1,5 @@
 -- Each call carries a row and the bare record that it agrees with to ones that agree. Assumes nothing.
-use Rattle.std.proofs.Common.{◌≡◌, ℕ, ◌-◌, ◌<◌, ◌≤◌, Bool, true, false, not, ◌||◌, eqb, leb, ◌⊎◌, List, [], ◌∷◌, length, get_or, take, set, Some, None, Ok, Err, Option, Result, sym, refl, ap, ◌∙◌, subst, arith}
+use Rattle.std.proofs.Common.{◌≡◌, ℕ, ◌-◌, ◌<◌, ◌≤◌, Bool, true, false, not, ◌||◌, eqb, leb, ◌⊎◌, List, [], ◌∷◌, length, get_or, take, set, Some, None, Err, Option, Result, sym, refl, ap, ◌∙◌, subst, arith}
 use Rattle.std.proofs.lemmas.List.{length-set, length-take, length-take-le, get_or-take, ext_get_or}
 use Rattle.std.proofs.lemmas.Bool.{true≢false, cases_eq, leb-false, or_parts, not-false, eqb-true}
 use Rattle.words.specs.Sets.{bit, In}
@@ -102,7 +102,7 @@ module _ (m : Model) (b : Bare) (a a' : Record) (agrees : Agrees m b a) where
   -- lay: both have what is given, and no mark
   pub carries_lay : (n d results : ℕ) (palettes : List ℕ) (r : Result ℕ Refusal)
       → Replies (lay_refusal n d palettes) a r a' (Lays a n d results palettes)
-      → (c : Bare) × (Lay b n d results palettes c × Agrees m c a')
+      → (c : Bare) × (Lay n d results palettes b c × Agrees m c a')
   carries_lay n d results palettes r =
       let size : length a'.current.palettes ≡ 60 = a'.places in
       carried r (lay_refusal n d palettes) (lay_refusal n d palettes) _ _ refl
@@ -116,7 +116,7 @@ module _ (m : Model) (b : Bare) (a a' : Record) (agrees : Agrees m b a) where
   -- withdraw: the rows with v at the part fall from both; once judged, v stood there exactly where one of them did
   pub carries_withdraw : (part v : ℕ) (r : Result ℕ Refusal)
       → Replies (withdraw_refusal a.current.stand a.n a.d part v) a r a' (Withdraws a part v)
-      → (c : Bare) × (Withdraw m b part v c × Agrees m c a')
+      → (c : Bare) × (Withdraw m part v b c × Agrees m c a')
   carries_withdraw part v r =
       let size : length a.current.palettes ≡ 60 = a.places in
       let size' : length a'.current.palettes ≡ 60 = a'.places in
@@ -134,7 +134,7 @@ module _ (m : Model) (b : Bare) (a a' : Record) (agrees : Agrees m b a) where
 
   -- limit: so it is with the rows that have the result
   pub carries_limit : (k : ℕ) (r : Result ℕ Refusal) → Replies (limit_refusal a.current.stand k) a r a' (Limits a k)
-      → (c : Bare) × (Limit m b k c × Agrees m c a')
+      → (c : Bare) × (Limit m k b c × Agrees m c a')
   carries_limit k r =
       carried r (limit_refusal a.current.stand k) (limit_refusal b.stand k) _ _ (cc)
       (λ none (left, (answer, call)).
@@ -147,13 +147,13 @@ module _ (m : Model) (b : Bare) (a a' : Record) (agrees : Agrees m b a) where
 
   -- settle: the complete rows remain, and the row has exactly what they have
   pub carries_settle : (words : ℕ) (r : Result (ℕ × ℕ) Refusal)
-      → By (settle_refusal a.current.stand a.n words) (λ e. (r ≡ Err e) × (a' ≡ a)) ((h : ℕ) × ((k : ℕ) × ((r ≡ Ok (h, k)) × Settles m a h k a')))
-      → (c : Bare) × (Settle m b words c × Agrees m c a')
+      → Replies (settle_refusal a.current.stand a.n words) a r a' (λ k. Settles m a k.0 k.1)
+      → (c : Bare) × (Settle m words b c × Agrees m c a')
   carries_settle words r =
       let size : length a.current.palettes ≡ 60 = a.places in
       let size' : length a'.current.palettes ≡ 60 = a'.places in
       carried r (settle_refusal a.current.stand a.n words) (settle_refusal b.stand b.n words) _ _ (cc)
-      (λ none (h, (k, (answer, call))).
+      (λ none (k, (answer, call)).
       let now : Point = record { palettes = b.palettes; results = b.results; stand = a'.current.stand } in
       let rows : SameRows m b.palettes b.results (parts_of a) a.current.results = rw agrees.parts agrees.now.rows in (
         with b now b.marks,
@@ -162,7 +162,7 @@ module _ (m : Model) (b : Bare) (a a' : Record) (agrees : Agrees m b a) where
           agrees_still now agrees call.same_size call.same_marks (record {
             stand = refl;
             size = agrees.now.size;
-            rows = λ xs. rw agrees.parts at (iff_on (rows xs) (settle_rows m a a' h k (omega arith) call xs));
+            rows = λ xs. rw agrees.parts at (iff_on (rows xs) (settle_rows m a a' k.0 k.1 (omega arith) call xs));
             hatchings = λ _ i v l. iff_on (call.used i (omega (arith, agrees.parts)) v) (iff_back (some_like _ rows));
             results = λ _ v. iff_on (call.had v) (iff_back (some_like _ rows));
           }),
@@ -210,3 +210,6 @@ module _ (m : Model) (b : Bare) (a a' : Record) (agrees : Agrees m b a) where
       some_mark : (points : List Point) → eqb (length points) 0 ≡ false → (p : Point) × ((older : List Point) × (points ≡ p ∷ older))
       some_mark [] none = absurd (true≢false none)
       some_mark (p ∷ older) none = (p, (older, refl))
+
+-- how each call carries them over
+pub ruleset carrying = (carries_lay, carries_withdraw, carries_limit, carries_settle, carries_mark, carries_back)

@@ -45,28 +45,28 @@ pub record Has (b : Bare) (n d : ℕ) (palettes : List ℕ) (results : ℕ) (mar
 -- Each call: b becomes c. A call with a cause of refusal alters nothing.
 
 -- lay: it is as given, open, and without a mark
-abbrev pub Lay : Bare → ℕ → ℕ → ℕ → List ℕ → Bare → Type 0
-Lay b n d results palettes c =
+abbrev pub Lay : ℕ → ℕ → ℕ → List ℕ → Bare → Bare → Type 0
+Lay n d results palettes b c =
     By (lay_refusal n d palettes) (λ _. c ≡ b)
     (c ≡ record { n = n; d = d; palettes = palettes; results = results; stand = Open; marks = [] })
 
 -- withdraw: the part is without v; open where some complete row used v there
-abbrev pub Withdraw : Model → Bare → ℕ → ℕ → Bare → Type 0
-Withdraw m b part v c =
+abbrev pub Withdraw : Model → ℕ → ℕ → Bare → Bare → Type 0
+Withdraw m part v b c =
     By (withdraw_refusal b.stand b.n b.d part v) (λ _. c ≡ b)
     (Has c b.n b.d (slice_set b.palettes part (without (slice_index b.palettes part) v)) b.results b.marks
     × OpensIf (Uses m b.palettes b.results part v) b.stand c.stand)
 
 -- limit: the results are without k; open where some complete row had k
-abbrev pub Limit : Model → Bare → ℕ → Bare → Type 0
-Limit m b k c =
+abbrev pub Limit : Model → ℕ → Bare → Bare → Type 0
+Limit m k b c =
     By (limit_refusal b.stand k) (λ _. c ≡ b)
     (Has c b.n b.d b.palettes (without b.results k) b.marks
     × OpensIf (Yields m b.palettes b.results k) b.stand c.stand)
 
 -- settle, with a scratch of so many words: nothing is struck; settled where there is a complete row, and else dead
-abbrev pub Settle : Model → Bare → ℕ → Bare → Type 0
-Settle m b words c =
+abbrev pub Settle : Model → ℕ → Bare → Bare → Type 0
+Settle m words b c =
     By (settle_refusal b.stand b.n words) (λ _. c ≡ b)
     (Has c b.n b.d b.palettes b.results b.marks
     × ((Possible m b.palettes b.results → c.stand ≡ Settled) × ((Possible m b.palettes b.results → ⊥) → c.stand ≡ Dead)))

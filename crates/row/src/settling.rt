@@ -4,7 +4,7 @@ ghost use Rattle.layers.specs.Rows.{Model, model, Possible};
 ghost use Rattle.layers.specs.Scratch.{Lives, SameFrom};
 ghost use Rattle.record.specs.declared.stand.Stand.TheVariants.{Settled, Dead};
 ghost use Rattle.record.specs.Refusals.{settle_refusal};
-ghost use Rattle.record.specs.Replies.{By};
+ghost use Rattle.record.specs.Replies.{By, Replies};
 ghost use Rattle.record.specs.Stands.{is_blank};
 ghost use Rattle.verdicts.specs.Verdicts.{Palettes};
 ghost use Rattle.bare.specs.Settling.{Settles, parts_of};
@@ -70,7 +70,11 @@ pub fn settle<R: NeighbourRule, T: Tally>(
     row: &mut Record,
     scratch: &mut [u64],
 ) -> Result<(u32, u32), Refusal>
-    ensures { let a = row.old in let b = row.new in let m = model (R.pairs rule.now) (T.machine tally.now) in By (settle_refusal a.current.stand a.n (length scratch.old)) (λ e. (result ≡ Err e) × (b ≡ a) × (scratch.new ≡ scratch.old)) ((h : ℕ) × ((k : ℕ) × ((result ≡ Ok (h, k)) × Settles m a h k b × Lives m (parts_of a) a.current.results scratch.new × SameFrom (32 * a.n) scratch.new scratch.old))) }
+    ensures reply { let a = row.old in let m = model (R.pairs rule.now) (T.machine tally.now) in
+        Replies (settle_refusal a.current.stand a.n (length scratch.old)) a result row.new (λ k. Settles m a k.0 k.1) }
+    ensures live { let a = row.old in let m = model (R.pairs rule.now) (T.machine tally.now) in
+        By (settle_refusal a.current.stand a.n (length scratch.old)) (λ _. scratch.new ≡ scratch.old)
+        (Lives m (parts_of a) a.current.results scratch.new × SameFrom (32 * a.n) scratch.new scratch.old) }
 {
     if row.current.stand.is_blank() {
         return Err(Refusal::NoRow);

@@ -19,4 +19,7 @@ returns g c =
     let room : ltb (length c.args.scratch.now) (32 * a.n) ≡ false = le-ltb (length c.args.scratch.now) (32 * a.n) (omega (arith, lives.room, parts, same)) in
     let rest : SameFrom (32 * a.n) c.write_live.new.scratch c.args.scratch.now =
     subst (λ (n : ℕ). SameFrom (32 * n) c.write_live.new.scratch c.args.scratch.now) parts c.write_live.ensures.rest in
-    rw (blank, room) (c.strike.result.0, (c.strike.result.1, (refl, c.strike.ensures (g.R.NeighbourRule.pairs c.args.rule.now) lives, lives, rest)))
+    record {
+      reply = rw (blank, room) (c.strike.result, (refl, c.strike.ensures (g.R.NeighbourRule.pairs c.args.rule.now) lives));
+      live = rw (blank, room) (lives, rest);
+    }
