@@ -46,7 +46,7 @@ fn placed(palettes: &[u32]) -> [u32; 60]
     ensures { (i : ℕ) → slice_index result i ≡ slice_index palettes.now i }
 {
     let mut places = [0; 60];
-    places[0..palettes.len()].copy_from_slice(palettes);
+    places[..palettes.len()].copy_from_slice(palettes);
     places
 }
 
@@ -73,6 +73,7 @@ impl Record {
     }
 
     // Lays a row of n parts and d hatchings, and answers how many parts it has.
+    #[tactic(auto, using(crate::proofs::Heights::each_low))]
     pub fn lay(&mut self, n: u32, d: u32, results: u64, palettes: &[u32]) -> Result<u32, Refusal>
         ensures { let a = self.old in Replies (lay_refusal n d palettes.now) a result self.new (Lays a n d results palettes.now) }
     {
