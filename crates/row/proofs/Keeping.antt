@@ -1,15 +1,17 @@
 -- What is left of palettes and results is what complete rows use and have. Assumes nothing.
-use Rattle.std.proofs.Common.{◌≡◌, ℕ, ◌+◌, ◌-◌, ◌<◌, ◌≤◌, List, ◌++◌, length, get_or, take, drop, sym, refl, ap, ◌∙◌, subst, inl, inr, arith}
+use Rattle.std.proofs.Common.{◌≡◌, ℕ, ◌+◌, ◌-◌, ◌*◌, ◌<◌, ◌≤◌, List, ◌++◌, length, get_or, take, drop, sym, refl, ap, ◌∙◌, subst, inl, inr, arith}
 use Rattle.std.proofs.Math.Seq.{take-append_seam}
 use Rattle.std.proofs.lemmas.List.{get_or_past, get_or_append_left, get_or-append_right, get_or-drop, get_or-take, length-take}
 use Rattle.std.proofs.lemmas.Bool.{cases_lt}
-use Rattle.words.specs.Sets.{In, Holds}
+use Rattle.std.proofs.lemmas.List.Sums.{sum_by-le}
+use Rattle.words.specs.Sets.{In, Holds, size}
+use Rattle.words.proofs.Sizes.{size_le}
 use Rattle.words.proofs.Membership.{holds_zero}
 use Rattle.tallies.specs.Machines.{state}
 use Rattle.layers.specs.Rows.{Model, Uses, Yields}
 use Rattle.layers.specs.Scratch.{Lives}
 use Rattle.record.specs.declared.record.Record.{Record}
-use Rattle.bare.specs.Settling.{parts_of}
+use Rattle.bare.specs.Settling.{parts_of, total}
 use Rattle.verdicts.specs.Verdicts.{Palettes, WordHas}
 use Rattle.verdicts.proofs.Telling.{live_word, word_live}
 
@@ -19,6 +21,10 @@ parts_small a i v member = elim (cases_lt i a.n) [
   | inl inside ↦ omega (arith, a.hatchings, a.drawn i v (rw (get_or-take a.n a.current.palettes i 0 inside) at member))
   | inr past ↦ absurd ((holds_zero v).0 (rw (get_or_past (parts_of a) i 0 (omega (arith, length-take a.n a.current.palettes))) at member))
 ]
+
+-- palettes have at most 32 hatchings each
+pub total_le : (ps : List ℕ) → total ps ≤ length ps * 32
+total_le ps = sum_by-le (size 32) 32 ps (λ k d _. size_le 32 (get_or ps k d))
 
 -- palettes whose first n became the front
 module _ (old front : List ℕ) (n : ℕ) (size : length front ≡ n) where

@@ -18,6 +18,7 @@ use verdicts::{is_possible, results_at, used_at};
 use words::WordSet;
 
 // Leaves in each palette what the live states use there, and answers how many hatchings fell.
+#[tactic(auto, using(words::proofs::Sizes::size_within, words::proofs::Sizes::size_le, crate::proofs::Keeping::total_le))]
 fn narrow(palettes: &mut [u32], live: &[u64]) -> u32
     requires { length palettes.old ≤ 60 }
     ensures { Narrows palettes.old live.now result palettes.new }
@@ -44,6 +45,7 @@ fn judgement(live: &[u64]) -> Stand
 }
 
 // Strikes from the record what its live states do not use or have, and answers how many hatchings and results fell.
+#[tactic(auto, using(words::proofs::Sizes::size_within))]
 fn strike<T: Tally>(tally: &T, row: &mut Record, live: &[u64]) -> (u32, u32)
     requires { 0 < row.old.n }
     ensures { let a = row.old in ((p : ℕ → ℕ → Bool) → Lives (model p (T.machine tally.now)) (parts_of a) a.current.results live.now → Settles (model p (T.machine tally.now)) a result.0 result.1 row.new) }

@@ -1,24 +1,10 @@
-use Rattle.std.proofs.Common.{◌≡◌, ℕ, ◌*◌, ◌<◌, ◌≤◌, List, length, get_or, set, sym, ◌∙◌, subst, below_more, arith, rules}
+use Rattle.std.proofs.Common.{◌≡◌, ℕ, ◌<◌, List, length, get_or, set, sym, ◌∙◌, subst, below_more, arith, rules}
 use Rattle.std.proofs.lemmas.List.{get_or-set_same, get_or-set_other}
-use Rattle.std.proofs.lemmas.List.Sums.{sum_by-le, sum_by-set}
+use Rattle.std.proofs.lemmas.List.Sums.{sum_by-set}
 use Rattle.words.specs.Sets.{In, Holds, size}
-use Rattle.words.proofs.Sizes.{size_le, size_within}
+use Rattle.words.proofs.Sizes.{size_within}
 use Rattle.verdicts.specs.Verdicts.{WordHas}
-use Rattle.bare.specs.Settling.{total}
 use Rattle.row.proofs.settling.narrow.Goals as goal
-
-pub overflow_sub-fallen : goal.overflow_sub-fallen
-overflow_sub-fallen c =
-    let within = size_within 32 c.intersection-rest.result (get_or c.loop-i.palettes c.loop-i.i 0) (λ k j. ((c.intersection-rest.ensures k).0 j).0) in
-    search rules
-
-pub overflow_add-fallen : goal.overflow_add-fallen
-overflow_add-fallen c =
-    let ps : List ℕ = c.args.palettes.now in
-    let most : total ps ≤ length ps * 32 = sum_by-le (size 32) 32 ps (λ k d _. size_le 32 (get_or ps k d)) in
-    let fallen : c.loop-i.fallen ≤ 60 * 32 = omega (arith, c.loop-i.invariant.2, c.requires) in
-    let more : c.count.result ≤ 32 = search (rules, size_le 32 (get_or c.loop-i.palettes c.loop-i.i 0)) in
-    search rules
 
 pub loop-i-preserved : goal.loop-i-preserved
 loop-i-preserved c =

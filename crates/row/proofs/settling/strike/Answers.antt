@@ -1,17 +1,11 @@
-use Rattle.std.proofs.Common.{◌≡◌, ℕ, suc, ◌-◌, ◌<◌, List, length, get_or, refl, ap, inl, inr, arith, rules}
+use Rattle.std.proofs.Common.{◌≡◌, ℕ, suc, ◌-◌, ◌<◌, List, length, get_or, refl, inl, inr, arith, rules}
 use Rattle.std.proofs.lemmas.List.{get_or-take, length-take-le}
-use Rattle.std.proofs.lemmas.Bool.{both_ways, cases_lt}
+use Rattle.std.proofs.lemmas.Bool.{cases_lt}
 use Rattle.words.proofs.Sizes.{size_within}
 use Rattle.layers.specs.Rows.{Model, model}
-use Rattle.record.specs.Stands.{is_blank}
 use Rattle.bare.specs.Settling.{parts_of}
 use Rattle.row.proofs.Keeping.{kept_had, kept_used, parts_small, front_at, behind_at, take_front}
 use Rattle.row.proofs.settling.strike.Goals as goal
-
-pub overflow_sub-results : goal.overflow_sub-results
-overflow_sub-results g c =
-    let within = size_within 64 c.intersection-had.result c.args.row.now.current.results (λ k j. ((c.intersection-had.ensures k).0 j).0) in
-    search rules
 
 pub invariant_of-row-clause-drawn : goal.invariant_of-row-clause-drawn
 invariant_of-row-clause-drawn g c = λ i v member.
@@ -25,9 +19,6 @@ invariant_of-row-clause-drawn g c = λ i v member.
       | inl l ↦ a.drawn i v (rw (get_or-take a.n old i 0 l) at ((c.narrow-hatchings.ensures.palettes i (omega (arith, parts)) v).0 (rw (front_at old front a.n size i l) at member)).0)
       | inr l ↦ a.drawn i v (rw (behind_at old front a.n size i l) at member)
     ]
-
-pub invariant_of-row-clause-unmarked : goal.invariant_of-row-clause-unmarked
-invariant_of-row-clause-unmarked g c = λ e. absurd (both_ways (is_blank c.judgement.result) c.judgement.ensures.laid (ap is_blank e))
 
 pub returns : goal.returns
 returns g c p lives =
