@@ -1,5 +1,5 @@
 -- What a row has agrees with what the bare record has, and goes on to where both lose the same complete rows. Assumes nothing.
-use Rattle.std.proofs.Common.{◌≡◌, ℕ, ◌<◌, false, ◌⊎◌, List, [], ◌∷◌, length, get_or, take, set, sym, refl, ◌∙◌, subst, inl, inr, arith}
+use Rattle.std.proofs.Common.{◌≡◌, ◌↔◌, ℕ, ◌<◌, false, ◌⊎◌, List, [], ◌∷◌, length, get_or, take, set, sym, refl, ◌∙◌, subst, inl, inr, arith}
 use Rattle.std.proofs.lemmas.List.{get_or-set_same, get_or-set_other}
 use Rattle.std.proofs.lemmas.Bool.{true≢false}
 use Rattle.words.specs.Sets.{In}
@@ -13,16 +13,16 @@ use Rattle.record.specs.Calls.{SameSize, SameMarks}
 use Rattle.record.specs.Copies.{no_copy, copy_of}
 use Rattle.record.specs.Stands.{is_blank, OpensIf}
 use Rattle.layers.specs.Rows.{Model}
-use Rattle.bare.specs.Agreement.{Iff, Judged, PointAgrees, MarksAgree, Agrees}
+use Rattle.bare.specs.Agreement.{Judged, PointAgrees, MarksAgree, Agrees}
 use Rattle.bare.specs.Bare.{Bare, Point, Has}
 use Rattle.bare.proofs.Striking.{Fewer, SameRows, SomeRow, some_like, none_fewer}
 
 -- ---- exactly when
 
-pub iff_back : {P Q : Type 0} → Iff P Q → Iff Q P
+pub iff_back : {P Q : Type 0} → (P ↔ Q) → Q ↔ P
 iff_back same = (same.1, same.0)
 
-pub iff_on : {P Q R : Type 0} → Iff P Q → Iff Q R → Iff P R
+pub iff_on : {P Q R : Type 0} → (P ↔ Q) → (Q ↔ R) → P ↔ R
 iff_on first second = (λ p. second.0 (first.0 p), λ r. first.1 (second.1 r))
 
 -- ---- stands
@@ -35,7 +35,7 @@ judged_still P s t opens judged = (none, subst Judged (opens.1 none) judged)
     none p = subst Judged (opens.0 p) judged
 
 -- of an open row nothing need be known
-pub opens_like : (P Q : Type 0) (s t : Stand) → is_blank s ≡ false → P ⊎ (P → ⊥) → (Judged s → Iff P Q) → OpensIf P s t → OpensIf Q s t
+pub opens_like : (P Q : Type 0) (s t : Stand) → is_blank s ≡ false → P ⊎ (P → ⊥) → (Judged s → P ↔ Q) → OpensIf P s t → OpensIf Q s t
 opens_like P Q Blank t laid either exact opens = absurd (true≢false laid)
 opens_like P Q Open t laid either exact opens = let opened : t ≡ Open = elim either [ inl p ↦ opens.0 p | inr none ↦ opens.1 none ] in (λ _. opened, λ _. opened)
 opens_like P Q Settled t laid either exact opens = (λ q. opens.0 ((exact tt).1 q), λ none. opens.1 (λ p. none ((exact tt).0 p)))
@@ -47,13 +47,13 @@ opens_like P Q Dead t laid either exact opens = (λ q. opens.0 ((exact tt).1 q),
 pub record Loses (m : Model) (n : ℕ) (X : List ℕ → Type 0) (P : Type 0) (s t : Moment) : Type 0 where
   pub rows : Fewer m X (take n s.palettes) s.results (take n t.palettes) t.results
   pub opens : OpensIf P s.stand t.stand
-  pub hatchings : (P → ⊥) → (i v : ℕ) → Iff (In v (get_or t.palettes i 0)) (In v (get_or s.palettes i 0))
-  pub results : (P → ⊥) → (k : ℕ) → Iff (In k t.results) (In k s.results)
+  pub hatchings : (P → ⊥) → (i v : ℕ) → In v (get_or t.palettes i 0) ↔ In v (get_or s.palettes i 0)
+  pub results : (P → ⊥) → (k : ℕ) → In k t.results ↔ In k s.results
 
 -- it agrees still where the bare record loses the same rows, and P tells of a judged row whether it loses any
 pub agrees_fewer : {m : Model} {n : ℕ} {p : Point} {s t : Moment} {qs : List ℕ} {r : ℕ} {X : List ℕ → Type 0} {P : Type 0}
     → PointAgrees m n p s → Loses m n X P s t → length qs ≡ n → Fewer m X p.palettes p.results qs r
-    → (Judged p.stand → Iff P (SomeRow m p.palettes p.results X))
+    → (Judged p.stand → P ↔ SomeRow m p.palettes p.results X)
     → PointAgrees m n (record { palettes = qs; results = r; stand = t.stand }) t
 agrees_fewer {m} {n} {p} {s} {t} {qs} {r} {X} {P} agrees loses size fewer exact = record {
   stand = refl;

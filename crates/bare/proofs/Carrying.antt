@@ -1,5 +1,5 @@
 -- Each call carries a row and the bare record that it agrees with to ones that agree. Assumes nothing.
-use Rattle.std.proofs.Common.{◌≡◌, ℕ, ◌-◌, ◌<◌, ◌≤◌, Bool, true, false, not, ◌||◌, eqb, leb, ◌⊎◌, List, [], ◌∷◌, length, get_or, take, set, Some, None, Err, Option, Result, sym, refl, ap, ◌∙◌, subst, arith}
+use Rattle.std.proofs.Common.{◌≡◌, ◌↔◌, ℕ, ◌-◌, ◌<◌, ◌≤◌, Bool, true, false, not, ◌||◌, eqb, leb, ◌⊎◌, List, [], ◌∷◌, length, get_or, take, set, Some, None, Err, Option, Result, sym, refl, ap, ◌∙◌, subst, arith}
 use Rattle.std.proofs.lemmas.List.{length-set, length-take, length-take-le, get_or-take, ext_get_or}
 use Rattle.std.proofs.lemmas.Bool.{true≢false, cases_eq, leb-false, or_parts, not-false, eqb-true}
 use Rattle.words.specs.Sets.{bit, In}
@@ -15,7 +15,7 @@ use Rattle.record.specs.Refusals.{checked, out_of_range, lay_refusal, withdraw_r
 use Rattle.record.specs.Replies.{By, Replies}
 use Rattle.record.specs.Stands.{is_blank, OpensIf}
 use Rattle.layers.specs.Rows.{Model}
-use Rattle.bare.specs.Agreement.{Iff, Judged, PointAgrees, MarksAgree, Agrees}
+use Rattle.bare.specs.Agreement.{Judged, PointAgrees, MarksAgree, Agrees}
 use Rattle.bare.specs.Bare.{Bare, Point, Has, point, blank, without, Lay, Withdraw, Limit, Settle, Mark, Back}
 use Rattle.bare.specs.Settling.{Settles, parts_of}
 use Rattle.bare.proofs.Agreeing.{iff_back, iff_on, Loses, agrees_laid, with, has_with, agrees_with, agrees_still, agrees_fewer, opens_like, marks_more}
@@ -82,7 +82,7 @@ module _ (m : Model) (b : Bare) (a a' : Record) (agrees : Agrees m b a) where
   -- over one by which both lose the same complete rows
   carried_fewer : (qs : List ℕ) (r : ℕ) (X : List ℕ → Type 0) (P : Type 0) → is_blank b.stand ≡ false → P ⊎ (P → ⊥)
       → Loses m b.n X P a.current a'.current → length qs ≡ b.n → Fewer m X b.palettes b.results qs r
-      → (Judged b.stand → Iff P (SomeRow m b.palettes b.results X)) → SameSize a a' → SameMarks a a'
+      → (Judged b.stand → P ↔ SomeRow m b.palettes b.results X) → SameSize a a' → SameMarks a a'
       → (c : Bare) × ((Has c b.n b.d qs r b.marks × OpensIf (SomeRow m b.palettes b.results X) b.stand c.stand) × Agrees m c a')
   carried_fewer qs r X P laid either loses size fewer exact same_size same_marks = (
     with b now b.marks,

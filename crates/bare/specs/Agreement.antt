@@ -1,5 +1,5 @@
 -- When a row's record agrees with a bare record: all that is told of the one is true of the other. Assumes nothing.
-use Rattle.std.specs.Prelude.{◌≡◌, ℕ, ◌<◌, List, [], ◌∷◌, length, take, slice_index}
+use Rattle.std.specs.Prelude.{◌≡◌, ◌↔◌, ℕ, ◌<◌, List, [], ◌∷◌, length, take, slice_index}
 use Rattle.words.specs.Sets.{In}
 use Rattle.record.specs.declared.record.Record.{Record}
 use Rattle.record.specs.declared.stand.Stand.{Stand}
@@ -9,10 +9,6 @@ use Rattle.record.specs.declared.undo.UndoTable.{UndoTable}
 use Rattle.record.specs.Copies.{copy_of}
 use Rattle.layers.specs.Rows.{Model, Complete, Uses, Yields}
 use Rattle.bare.specs.Bare.{Bare, Point, point}
-
--- exactly when
-abbrev pub Iff : Type 0 → Type 0 → Type 0
-Iff P Q = (P → Q) × (Q → P)
 
 -- settled or dead
 abbrev pub Judged : Stand → Type 0
@@ -26,11 +22,11 @@ pub record PointAgrees (m : Model) (n : ℕ) (p : Point) (s : Moment) : Type 0 w
   pub stand : s.stand ≡ p.stand
   pub size : length p.palettes ≡ n
   -- they have the same complete rows
-  pub rows : (xs : List ℕ) → Iff (Complete m p.palettes p.results xs) (Complete m (take n s.palettes) s.results xs)
+  pub rows : (xs : List ℕ) → Complete m p.palettes p.results xs ↔ Complete m (take n s.palettes) s.results xs
   -- once settled or dead, a hatching stands exactly where some complete row uses it,
-  pub hatchings : Judged p.stand → (i v : ℕ) → i < n → Iff (In v (slice_index s.palettes i)) (Uses m p.palettes p.results i v)
+  pub hatchings : Judged p.stand → (i v : ℕ) → i < n → In v (slice_index s.palettes i) ↔ Uses m p.palettes p.results i v
   -- and a result is left exactly when some complete row has it
-  pub results : Judged p.stand → (k : ℕ) → Iff (In k s.results) (Yields m p.palettes p.results k)
+  pub results : Judged p.stand → (k : ℕ) → In k s.results ↔ Yields m p.palettes p.results k
 
 -- each mark agrees with its copy; the oldest copy is 0
 abbrev pub MarksAgree : Model → ℕ → List Point → UndoTable → Type 0
