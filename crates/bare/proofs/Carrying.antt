@@ -15,8 +15,8 @@ use Rattle.record.specs.Refusals.{checked, out_of_range, lay_refusal, withdraw_r
 use Rattle.record.specs.Replies.{By, Replies}
 use Rattle.record.specs.Stands.{is_blank, OpensIf}
 use Rattle.layers.specs.Rows.{Model}
-use Rattle.bare.specs.Agreement.{Judged, PointAgrees, MarksAgree, Agrees}
-use Rattle.bare.specs.Bare.{Bare, Point, Has, point, blank, without, Lay, Withdraw, Limit, Settle, Mark, Back}
+use Rattle.bare.specs.Agreement.{Judged, MomentAgrees, MarksAgree, Agrees}
+use Rattle.bare.specs.Bare.{Bare, Has, blank, without, Lay, Withdraw, Limit, Settle, Mark, Back}
 use Rattle.bare.specs.Settling.{Settles, parts_of}
 use Rattle.bare.proofs.Agreeing.{iff_back, iff_on, Loses, agrees_laid, with, has_with, agrees_with, agrees_still, agrees_fewer, opens_like, marks_more}
 use Rattle.bare.proofs.Striking.{Fewer, SameRows, SomeRow, Struck, holds_less, none_less, none_struck, struck_set, struck_take, fewer_struck, fewer_limited, same_used, some_like}
@@ -80,23 +80,23 @@ module _ (m : Model) (b : Bare) (a a' : Record) (agrees : Agrees m b a) where
       go None accept accepted = accept refl accepted
 
   -- over one by which both lose the same complete rows
-  carried_fewer : (qs : List ℕ) (r : ℕ) (X : List ℕ → Type 0) (P : Type 0) → is_blank b.stand ≡ false → P ⊎ (P → ⊥)
-      → Loses m b.n X P a.current a'.current → length qs ≡ b.n → Fewer m X b.palettes b.results qs r
-      → (Judged b.stand → P ↔ SomeRow m b.palettes b.results X) → SameSize a a' → SameMarks a a'
-      → (c : Bare) × ((Has c b.n b.d qs r b.marks × OpensIf (SomeRow m b.palettes b.results X) b.stand c.stand) × Agrees m c a')
+  carried_fewer : (qs : List ℕ) (r : ℕ) (X : List ℕ → Type 0) (P : Type 0) → is_blank b.current.stand ≡ false → P ⊎ (P → ⊥)
+      → Loses m b.n X P a.current a'.current → length qs ≡ b.n → Fewer m X b.current.palettes b.current.results qs r
+      → (Judged b.current.stand → P ↔ SomeRow m b.current.palettes b.current.results X) → SameSize a a' → SameMarks a a'
+      → (c : Bare) × ((Has c b.n b.d qs r b.marks × OpensIf (SomeRow m b.current.palettes b.current.results X) b.current.stand c.current.stand) × Agrees m c a')
   carried_fewer qs r X P laid either loses size fewer exact same_size same_marks = (
     with b now b.marks,
     (
       (
         has_with b now b.marks,
-        opens_like P (SomeRow m b.palettes b.results X) b.stand a'.current.stand laid either exact
+        opens_like P (SomeRow m b.current.palettes b.current.results X) b.current.stand a'.current.stand laid either exact
             (subst (λ (s : Stand). OpensIf P s a'.current.stand) agrees.now.stand loses.opens),
       ),
       agrees_still now agrees same_size same_marks (agrees_fewer agrees.now loses size fewer exact),
     ),
   )
     where
-      now : Point
+      now : Moment
       now = record { palettes = qs; results = r; stand = a'.current.stand }
 
   -- lay: both have what is given, and no mark
@@ -120,15 +120,15 @@ module _ (m : Model) (b : Bare) (a a' : Record) (agrees : Agrees m b a) where
   carries_withdraw part v r =
       let size : length a.current.palettes ≡ 60 = a.places in
       let size' : length a'.current.palettes ≡ 60 = a'.places in
-      carried r (withdraw_refusal a.current.stand a.n a.d part v) (withdraw_refusal b.stand b.n b.d part v) _ _ (cc)
+      carried r (withdraw_refusal a.current.stand a.n a.d part v) (withdraw_refusal b.current.stand b.n b.d part v) _ _ (cc)
       (λ none (k, (answer, call)).
-      let laid = checks (is_blank b.stand) NoRow _ none in
+      let laid = checks (is_blank b.current.stand) NoRow _ none in
       let inside : part < b.n = leb-false b.n part (checks (leb b.n part) NoPart _ laid.1).0 in
-      let inside' : part < length b.palettes = omega (arith, agrees.now.size) in
-      carried_fewer (set b.palettes part (without (get_or b.palettes part 0) v)) b.results _ _ laid.0 (cases_eq (bit (get_or a.current.palettes part 0) v) 1)
+      let inside' : part < length b.current.palettes = omega (arith, agrees.now.size) in
+      carried_fewer (set b.current.palettes part (without (get_or b.current.palettes part 0) v)) b.current.results _ _ laid.0 (cases_eq (bit (get_or a.current.palettes part 0) v) 1)
       (withdraw_loses m a a' b.n part v k (omega arith) (omega arith) inside call)
-      (length-set b.palettes part (without (get_or b.palettes part 0) v) ∙ agrees.now.size)
-      (fewer_struck inside' (struck_set part v b.palettes inside'))
+      (length-set b.current.palettes part (without (get_or b.current.palettes part 0) v) ∙ agrees.now.size)
+      (fewer_struck inside' (struck_set part v b.current.palettes inside'))
       (λ judged. agrees.now.hatchings judged part v inside)
       call.same_size call.same_marks)
 
@@ -136,12 +136,12 @@ module _ (m : Model) (b : Bare) (a a' : Record) (agrees : Agrees m b a) where
   pub carries_limit : (k : ℕ) (r : Result ℕ Refusal) → Replies (limit_refusal a.current.stand k) a r a' (Limits a k)
       → (c : Bare) × (Limit m k b c × Agrees m c a')
   carries_limit k r =
-      carried r (limit_refusal a.current.stand k) (limit_refusal b.stand k) _ _ (cc)
+      carried r (limit_refusal a.current.stand k) (limit_refusal b.current.stand k) _ _ (cc)
       (λ none (left, (answer, call)).
-      carried_fewer b.palettes (without b.results k) _ _ (checks (is_blank b.stand) NoRow _ none).0 (cases_eq (bit a.current.results k) 1)
+      carried_fewer b.current.palettes (without b.current.results k) _ _ (checks (is_blank b.current.stand) NoRow _ none).0 (cases_eq (bit a.current.results k) 1)
       (limit_loses m a a' b.n k left call)
       agrees.now.size
-      (fewer_limited b.results (without b.results k) k (holds_less b.results k))
+      (fewer_limited b.current.results (without b.current.results k) k (holds_less b.current.results k))
       (λ judged. agrees.now.results judged k)
       call.same_size call.same_marks)
 
@@ -152,10 +152,10 @@ module _ (m : Model) (b : Bare) (a a' : Record) (agrees : Agrees m b a) where
   carries_settle words r =
       let size : length a.current.palettes ≡ 60 = a.places in
       let size' : length a'.current.palettes ≡ 60 = a'.places in
-      carried r (settle_refusal a.current.stand a.n words) (settle_refusal b.stand b.n words) _ _ (cc)
+      carried r (settle_refusal a.current.stand a.n words) (settle_refusal b.current.stand b.n words) _ _ (cc)
       (λ none (k, (answer, call)).
-      let now : Point = record { palettes = b.palettes; results = b.results; stand = a'.current.stand } in
-      let rows : SameRows m b.palettes b.results (parts_of a) a.current.results = rw agrees.parts agrees.now.rows in (
+      let now : Moment = record { palettes = b.current.palettes; results = b.current.results; stand = a'.current.stand } in
+      let rows : SameRows m b.current.palettes b.current.results (parts_of a) a.current.results = rw agrees.parts agrees.now.rows in (
         with b now b.marks,
         (
           (has_with b now b.marks, (λ x. call.settled (x.0, (rows x.0).0 x.1), λ impossible. call.dead (λ x. impossible (x.0, (rows x.0).1 x.1)))),
@@ -174,15 +174,15 @@ module _ (m : Model) (b : Bare) (a a' : Record) (agrees : Agrees m b a) where
       → (c : Bare) × (Mark b c × Agrees m c a')
   carries_mark r =
       let size : length a.undo.saved ≡ 8 = a.copies in
-      carried r (mark_refusal a.current.stand a.marks) (mark_refusal b.stand (length b.marks)) _ _ (cc)
+      carried r (mark_refusal a.current.stand a.marks) (mark_refusal b.current.stand (length b.marks)) _ _ (cc)
       (λ none (k, (answer, call)).
-      let laid = checks (is_blank b.stand) NoRow _ none in
+      let laid = checks (is_blank b.current.stand) NoRow _ none in
       let inside : length b.marks < 8 = leb-false 8 (length b.marks) (checks (leb 8 (length b.marks)) FullMarks _ laid.1).0 in (
-        with b (point b) (point b ∷ b.marks),
+        with b b.current (b.current ∷ b.marks),
         (
-          (has_with b (point b) (point b ∷ b.marks), refl),
-          agrees_with (point b) (point b ∷ b.marks) agrees call.same_size
-              (subst (PointAgrees m b.n (point b)) (sym call.same) agrees.now)
+          refl,
+          agrees_with b.current (b.current ∷ b.marks) agrees call.same_size
+              (subst (MomentAgrees m b.n b.current) (sym call.same) agrees.now)
               (omega (arith, agrees.held, call.marks))
               (marks_more b.marks a.undo a'.undo (rw agrees.held at call.undo) (omega arith) agrees.now agrees.marks),
         ),
@@ -192,9 +192,9 @@ module _ (m : Model) (b : Bare) (a a' : Record) (agrees : Agrees m b a) where
   pub carries_back : (r : Result ℕ Refusal) → Replies (back_refusal a.current.stand a.marks) a r a' (GoesBack a)
       → (c : Bare) × (Back b c × Agrees m c a')
   carries_back r =
-      carried r (back_refusal a.current.stand a.marks) (back_refusal b.stand (length b.marks)) _ _ (cc)
+      carried r (back_refusal a.current.stand a.marks) (back_refusal b.current.stand (length b.marks)) _ _ (cc)
       (λ none (k, (answer, call)).
-      let laid = checks (is_blank b.stand) NoRow _ none in
+      let laid = checks (is_blank b.current.stand) NoRow _ none in
       let youngest = some_mark b.marks (checks (eqb (length b.marks) 0) NoMark _ laid.1).0 in
       let p = youngest.0 in
       let older = youngest.1.0 in
@@ -202,12 +202,12 @@ module _ (m : Model) (b : Bare) (a a' : Record) (agrees : Agrees m b a) where
       let left : a.marks - 1 ≡ length older = omega (arith, agrees.held, ap length youngest.1.1) in (
         with b p older,
         (
-          (p, (older, (youngest.1.1, has_with b p older, refl))),
+          (youngest.1.1, refl, refl),
           agrees_with p older agrees call.same_size (rw (call.again, left) agree.0) (call.marks ∙ left) (rw call.undo agree.1),
         ),
       ))
     where
-      some_mark : (points : List Point) → eqb (length points) 0 ≡ false → (p : Point) × ((older : List Point) × (points ≡ p ∷ older))
+      some_mark : (moments : List Moment) → eqb (length moments) 0 ≡ false → (p : Moment) × ((older : List Moment) × (moments ≡ p ∷ older))
       some_mark [] none = absurd (true≢false none)
       some_mark (p ∷ older) none = (p, (older, refl))
 

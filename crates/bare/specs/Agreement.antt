@@ -8,7 +8,7 @@ use Rattle.record.specs.declared.moment.Moment.{Moment}
 use Rattle.record.specs.declared.undo.UndoTable.{UndoTable}
 use Rattle.record.specs.Copies.{copy_of}
 use Rattle.layers.specs.Rows.{Model, Complete, Uses, Yields}
-use Rattle.bare.specs.Bare.{Bare, Point, point}
+use Rattle.bare.specs.Bare.{Bare}
 
 -- settled or dead
 abbrev pub Judged : Stand → Type 0
@@ -18,7 +18,7 @@ Judged Settled = Unit {0}
 Judged Dead = Unit {0}
 
 -- What a row of n parts has, s, agrees with what the bare record has, p.
-pub record PointAgrees (m : Model) (n : ℕ) (p : Point) (s : Moment) : Type 0 where
+pub record MomentAgrees (m : Model) (n : ℕ) (p s : Moment) : Type 0 where
   pub stand : s.stand ≡ p.stand
   pub size : length p.palettes ≡ n
   -- they have the same complete rows
@@ -29,13 +29,13 @@ pub record PointAgrees (m : Model) (n : ℕ) (p : Point) (s : Moment) : Type 0 w
   pub results : Judged p.stand → (k : ℕ) → In k s.results ↔ Yields m p.palettes p.results k
 
 -- each mark agrees with its copy; the oldest copy is 0
-abbrev pub MarksAgree : Model → ℕ → List Point → UndoTable → Type 0
+abbrev pub MarksAgree : Model → ℕ → List Moment → UndoTable → Type 0
 MarksAgree m n [] undo = Unit {0}
-MarksAgree m n (p ∷ older) undo = PointAgrees m n p (copy_of undo (length older)) × MarksAgree m n older undo
+MarksAgree m n (p ∷ older) undo = MomentAgrees m n p (copy_of undo (length older)) × MarksAgree m n older undo
 
 pub record Agrees (m : Model) (b : Bare) (a : Record) : Type 0 where
   pub parts : a.n ≡ b.n
   pub hatchings : a.d ≡ b.d
-  pub now : PointAgrees m b.n (point b) a.current
+  pub now : MomentAgrees m b.n b.current a.current
   pub held : a.marks ≡ length b.marks
   pub marks : MarksAgree m b.n b.marks a.undo
