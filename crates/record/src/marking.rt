@@ -15,9 +15,7 @@ impl Record {
     pub fn mark(&mut self) -> Result<u32, Refusal>
         ensures { let a = self.old in Replies (mark_refusal a.current.stand a.marks) a result self.new (Saves a) }
     {
-        if self.current.stand.is_blank() {
-            return Err(Refusal::NoRow);
-        }
+        self.check_laid()?;
         if self.marks >= MOST_MARKS {
             return Err(Refusal::FullMarks);
         }
@@ -30,9 +28,7 @@ impl Record {
     pub fn back(&mut self) -> Result<u32, Refusal>
         ensures { let a = self.old in Replies (back_refusal a.current.stand a.marks) a result self.new (GoesBack a) }
     {
-        if self.current.stand.is_blank() {
-            return Err(Refusal::NoRow);
-        }
+        self.check_laid()?;
         if self.marks == 0 {
             return Err(Refusal::NoMark);
         }

@@ -17,9 +17,7 @@ impl Record {
     pub fn withdraw(&mut self, part: u32, hatching: u32) -> Result<u32, Refusal>
         ensures { let a = self.old in Replies (withdraw_refusal a.current.stand a.n a.d part hatching) a result self.new (Withdraws a part hatching) }
     {
-        if self.current.stand.is_blank() {
-            return Err(Refusal::NoRow);
-        }
+        self.check_laid()?;
         if part >= self.n {
             return Err(Refusal::NoPart);
         }
@@ -39,9 +37,7 @@ impl Record {
     pub fn limit(&mut self, outcome: u32) -> Result<u32, Refusal>
         ensures { let a = self.old in Replies (limit_refusal a.current.stand outcome) a result self.new (Limits a outcome) }
     {
-        if self.current.stand.is_blank() {
-            return Err(Refusal::NoRow);
-        }
+        self.check_laid()?;
         if outcome > LAST_RESULT {
             return Err(Refusal::NoResult);
         }

@@ -78,9 +78,7 @@ pub fn settle<R: NeighbourRule, T: Tally>(
         By (settle_refusal a.current.stand a.n (length scratch.old)) (λ _. scratch.new ≡ scratch.old)
         (Lives m (parts_of a) a.current.results scratch.new × SameFrom (32 * a.n) scratch.new scratch.old) }
 {
-    if row.current.stand.is_blank() {
-        return Err(Refusal::NoRow);
-    }
+    row.check_laid()?;
     let parts = row.n as usize;
     write_live(
         rule,
