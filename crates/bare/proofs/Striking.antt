@@ -1,5 +1,5 @@
 -- What is struck from a set, and which complete rows are left then. Assumes nothing.
-use Rattle.std.proofs.Common.{◌≡◌, ℕ, zero, suc, ◌+◌, ◌-◌, ◌/◌, ◌^◌, ◌<◌, ◌≤◌, Bool, cond, eqb, List, length, get_or, take, set, sym, refl, ap, ◌∙◌, subst, subst₂, inl, inr, pow-suc, arith}
+use Rattle.std.proofs.Common.{◌≡◌, ◌↔◌, ℕ, zero, suc, ◌+◌, ◌-◌, ◌/◌, ◌^◌, ◌<◌, ◌≤◌, Bool, cond, eqb, List, length, get_or, take, set, sym, refl, ap, ◌∙◌, subst, subst₂, inl, inr, pow-suc, arith}
 use lib.Dec.{eqb-suc-suc}
 use Rattle.std.proofs.lemmas.List.{length-set, length-take, get_or-set_same, get_or-set_other, get_or-take, get_or_past}
 use Rattle.std.proofs.lemmas.Bool.{cases_eq, cases_lt, cond_both, eqb-true, eqb-false}
@@ -9,7 +9,6 @@ use Rattle.tallies.specs.Machines.{outcome}
 use Rattle.record.specs.Calls.{Without}
 use Rattle.layers.specs.Rows.{Model, Complete, Uses, Yields}
 use Rattle.bare.specs.Bare.{without}
-use Rattle.bare.specs.Agreement.{Iff}
 
 -- ---- one number struck from a set
 
@@ -45,7 +44,7 @@ holds_less w k = cond_both (eqb (bit w k) 1) (w - 2 ^ k) w (Without w k)
     )
 
 -- what is not in a set takes nothing with it
-pub none_less : (w v r : ℕ) → Without w v r → (In v w → ⊥) → (u : ℕ) → Iff (In u r) (In u w)
+pub none_less : (w v r : ℕ) → Without w v r → (In v w → ⊥) → (u : ℕ) → In u r ↔ In u w
 none_less w v r struck none u = (λ i. ((struck u).0 i).0, λ i. (struck u).1 (i, λ e. none (subst (λ (x : ℕ). In x w) e i)))
 
 -- ---- one hatching struck from one palette
@@ -58,14 +57,14 @@ pub record Struck (part v : ℕ) (ps qs : List ℕ) : Type 0 where
 
 module _ {part v : ℕ} {ps qs : List ℕ} (struck : Struck part v ps qs) where
   -- what stands then
-  struck_at : (i u : ℕ) → Iff (In u (get_or qs i 0)) (In u (get_or ps i 0) × ((i ≡ part) × (u ≡ v) → ⊥))
+  struck_at : (i u : ℕ) → In u (get_or qs i 0) ↔ (In u (get_or ps i 0) × ((i ≡ part) × (u ≡ v) → ⊥))
   struck_at i u = elim (cases_eq i part) [
     | inl e ↦ rw e (λ j. let t = (struck.here u).0 j in (t.0, λ x. t.1 x.1), λ t. (struck.here u).1 (t.0, λ x. t.1 (refl, x)))
     | inr ne ↦ rw (struck.others i ne) (λ j. (j, λ x. ne x.0), λ t. t.0)
   ]
 
   -- where v did not stand, nothing falls
-  pub none_struck : (In v (get_or ps part 0) → ⊥) → (i u : ℕ) → Iff (In u (get_or qs i 0)) (In u (get_or ps i 0))
+  pub none_struck : (In v (get_or ps part 0) → ⊥) → (i u : ℕ) → In u (get_or qs i 0) ↔ In u (get_or ps i 0)
   none_struck none i u = (
     λ j. ((struck_at i u).0 j).0,
     λ j. (struck_at i u).1 (j, λ e. none (subst₂ (λ (k x : ℕ). In x (get_or ps k 0)) e.0 e.1 j)),
@@ -94,7 +93,7 @@ struck_set part v ps inside = record {
 
 -- the same complete rows
 abbrev pub SameRows : Model → List ℕ → ℕ → List ℕ → ℕ → Type 0
-SameRows m ps r qs t = (xs : List ℕ) → Iff (Complete m ps r xs) (Complete m qs t xs)
+SameRows m ps r qs t = (xs : List ℕ) → Complete m ps r xs ↔ Complete m qs t xs
 
 -- some complete row of which X is true
 abbrev pub SomeRow : Model → List ℕ → ℕ → (List ℕ → Type 0) → Type 0
@@ -102,7 +101,7 @@ SomeRow m ps r X = (xs : List ℕ) × (Complete m ps r xs × X xs)
 
 -- the complete rows of which X is not true are left
 abbrev pub Fewer : Model → (List ℕ → Type 0) → List ℕ → ℕ → List ℕ → ℕ → Type 0
-Fewer m X ps r qs t = (xs : List ℕ) → Iff (Complete m qs t xs) (Complete m ps r xs × (X xs → ⊥))
+Fewer m X ps r qs t = (xs : List ℕ) → Complete m qs t xs ↔ (Complete m ps r xs × (X xs → ⊥))
 
 module _ {m : Model} where
   -- a complete row is complete still where all that it has still stands
@@ -118,7 +117,7 @@ module _ {m : Model} where
   }
 
   -- of the same rows the same is true
-  pub some_like : {ps qs : List ℕ} {r t : ℕ} (X : List ℕ → Type 0) → SameRows m ps r qs t → Iff (SomeRow m ps r X) (SomeRow m qs t X)
+  pub some_like : {ps qs : List ℕ} {r t : ℕ} (X : List ℕ → Type 0) → SameRows m ps r qs t → SomeRow m ps r X ↔ SomeRow m qs t X
   some_like X same = (λ x. (x.0, ((same x.0).0 x.1.0, x.1.1)), λ x. (x.0, ((same x.0).1 x.1.0, x.1.1)))
 
   -- where X is true of no complete row, none falls
@@ -135,7 +134,7 @@ module _ {m : Model} where
     λ t. complete_still struck.size (λ i l x. (at i).1 (x, λ e. t.1 (subst (λ (j : ℕ). get_or xs j 0 ≡ v) e.0 e.1))) (λ i. i) t.0,
   )
     where
-      at : (i : ℕ) → Iff (In (get_or xs i 0) (get_or qs i 0)) (In (get_or xs i 0) (get_or ps i 0) × ((i ≡ part) × (get_or xs i 0 ≡ v) → ⊥))
+      at : (i : ℕ) → In (get_or xs i 0) (get_or qs i 0) ↔ (In (get_or xs i 0) (get_or ps i 0) × ((i ≡ part) × (get_or xs i 0 ≡ v) → ⊥))
       at i = struck_at struck i (get_or xs i 0)
 
   -- the results without k: the rows that have it fall
@@ -145,7 +144,7 @@ module _ {m : Model} where
     λ x. complete_still refl (λ i l x. x) (λ i. at.1 (i, x.1)) x.0,
   )
     where
-      at : Iff (In (outcome m.machine xs) t) (In (outcome m.machine xs) r × (outcome m.machine xs ≡ k → ⊥))
+      at : In (outcome m.machine xs) t ↔ (In (outcome m.machine xs) r × (outcome m.machine xs ≡ k → ⊥))
       at = struck (outcome m.machine xs)
 
   -- where only what some complete row has is left, none falls

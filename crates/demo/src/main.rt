@@ -2,7 +2,7 @@
 // A hatching that is still possible stands by itself, one that is struck in brackets.
 #![tactic(auto)]
 
-use record::{Refusal, Stand};
+use record::Refusal;
 use row::Row;
 use rules::FormulaRule;
 use std::io;
@@ -17,22 +17,13 @@ const LAID: [u32; 3] = [0b01, 0b11, 0b11];
 // the result 2 alone
 const TWO: u64 = 0b100;
 
-fn stand_name(stand: Stand) -> &'static str {
-    match stand {
-        Stand::Blank => "blank",
-        Stand::Open => "open",
-        Stand::Settled => "settled",
-        Stand::Dead => "dead",
-    }
-}
-
 // The stand, and for each part the hatchings that were laid there.
 fn show_row(rt: &HostRuntime, row: &DemoRow) -> io::Result<()> {
-    print!(rt; "    {}:", stand_name(row.stand()))?;
+    print!(rt; "    {}:", row.stand())?;
     for (i, laid) in LAID.iter().enumerate() {
         print!(rt; " |")?;
         for v in members(*laid) {
-            if i < 60 && row.record.palettes[i].contains(v) {
+            if i < 60 && row.record.current.palettes[i].contains(v) {
                 print!(rt; " {v} ")?;
             } else {
                 print!(rt; "({v})")?;

@@ -1,5 +1,6 @@
 -- Why a call is refused: the first cause that holds. Assumes nothing.
-use Rattle.std.specs.Prelude.{ℕ, ◌*◌, ◌^◌, Bool, true, false, not, ◌||◌, List, [], ◌∷◌, length, Some, None, Option, ◌==◌, nat_le, nat_lt}
+use Rattle.std.specs.Prelude.{ℕ, ◌*◌, ◌^◌, Bool, true, false, not, ◌||◌, List, length, Some, None, Option, ◌==◌, nat_le, nat_lt}
+use Rattle.std.specs.List.{list_any}
 use Rattle.record.specs.declared.refusal.Refusal.{Refusal}
 use Rattle.record.specs.declared.refusal.Refusal.TheVariants.{NoRow, WrongSize, HighPalette, NoPart, NoHatching, NoResult, FullMarks, NoMark, ShortScratch}
 use Rattle.record.specs.declared.stand.Stand.{Stand}
@@ -32,8 +33,7 @@ too_high d palette = nat_le (2 ^ d) palette
 
 -- one of the palettes has
 abbrev pub any_too_high : ℕ → List ℕ → Bool
-any_too_high d [] = false
-any_too_high d (palette ∷ palettes) = too_high d palette || any_too_high d palettes
+any_too_high d = list_any (too_high d)
 
 -- to lay n parts and d hatchings
 abbrev pub lay_refusal : ℕ → ℕ → List ℕ → Option Refusal

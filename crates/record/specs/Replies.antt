@@ -1,5 +1,5 @@
 -- What a call replies, and what it leaves. Assumes nothing.
-use Rattle.std.specs.Prelude.{◌≡◌, ℕ, Some, None, Ok, Err, Option, Result}
+use Rattle.std.specs.Prelude.{◌≡◌, Some, None, Ok, Err, Option, Result}
 use Rattle.record.specs.declared.refusal.Refusal.{Refusal}
 
 -- refused with that cause, or accepted
@@ -8,5 +8,5 @@ By (Some e) Refused Accepted = Refused e
 By None Refused Accepted = Accepted
 
 -- a call on a replies r and leaves b: refused, all is as it was; accepted, To says what the answer k and b are
-abbrev pub Replies : {R : Type 0} → Option Refusal → R → Result ℕ Refusal → R → (ℕ → R → Type 0) → Type 0
-Replies cause a r b To = By cause (λ e. (r ≡ Err e) × (b ≡ a)) ((k : ℕ) × ((r ≡ Ok k) × To k b))
+abbrev pub Replies : {R K : Type 0} → Option Refusal → R → Result K Refusal → R → (K → R → Type 0) → Type 0
+Replies {R} {K} cause a r b To = By cause (λ e. (r ≡ Err e) × (b ≡ a)) ((k : K) × ((r ≡ Ok k) × To k b))

@@ -1,14 +1,15 @@
 // A blank record, and a row laid into it.
-ghost use Rattle.std.specs.Prelude.{◌≡◌, ℕ, ◌≤◌, length, Decides, slice_index};
+ghost use Rattle.std.specs.Prelude.{◌≡◌, ℕ, ◌≤◌, ◌↔◌, length, IsTrue, slice_index};
 ghost use Rattle.words.specs.Sets.{In};
 ghost use Rattle.record.specs.Calls.{Lays, NothingLaid};
 ghost use Rattle.record.specs.Refusals.{any_too_high, lay_refusal, out_of_range, too_high};
 ghost use Rattle.record.specs.Replies.{Replies};
 
+use crate::moment::Moment;
 use crate::record::Record;
 use crate::refusal::Refusal;
 use crate::stand::Stand;
-use crate::undo::{Saved, UndoTable};
+use crate::undo::UndoTable;
 use words::WordSet;
 
 // The most parts that a row can have.
@@ -21,13 +22,13 @@ const MOST_HATCHINGS: u32 = 32;
 fn is_out_of_range(most: u32, k: u32) -> bool
     ensures { result ≡ out_of_range most k }
 {
-    k == 0 || k > most
+    !(1..=most).contains(&k)
 }
 
 // Whether a palette has a hatching at or above d.
 fn is_too_high(d: u32, palette: u32) -> bool
     ensures test { result ≡ too_high d palette }
-    ensures meaning { Decides result ((v : ℕ) × ((d ≤ v) × In v palette)) }
+    ensures meaning { IsTrue result ↔ ((v : ℕ) × ((d ≤ v) × In v palette)) }
 {
     palette.lowest_from(d).is_some()
 }
@@ -36,12 +37,7 @@ fn is_too_high(d: u32, palette: u32) -> bool
 fn any_too_high(d: u32, palettes: &[u32]) -> bool
     ensures { result ≡ any_too_high d palettes.now }
 {
-    for palette in palettes {
-        if is_too_high(d, *palette) {
-            return true;
-        }
-    }
-    false
+    palettes.iter().any(|palette| is_too_high(d, *palette))
 }
 
 // The palettes in the places of a record, with 0 behind the last.
@@ -50,7 +46,7 @@ fn placed(palettes: &[u32]) -> [u32; 60]
     ensures { (i : ℕ) → slice_index result i ≡ slice_index palettes.now i }
 {
     let mut places = [0; 60];
-    places[0..palettes.len()].copy_from_slice(palettes);
+    places[..palettes.len()].copy_from_slice(palettes);
     places
 }
 
@@ -59,27 +55,25 @@ impl Record {
     pub fn blank() -> Record
         ensures { NothingLaid result }
     {
-        let palettes = [0; 60];
-        let results = 0;
-        let stand = Stand::Blank;
-        let saved = [Saved {
-            palettes,
-            results,
-            stand,
-        }; 8];
-        let undo = UndoTable { saved };
+        let current = Moment {
+            palettes: [0; 60],
+            results: 0,
+            stand: Stand::Blank,
+        };
+        let undo = UndoTable {
+            saved: [current; 8],
+        };
         Record {
             n: 0,
             d: 0,
-            palettes,
-            results,
-            stand,
+            current,
             marks: 0,
             undo,
         }
     }
 
     // Lays a row of n parts and d hatchings, and answers how many parts it has.
+    #[tactic(auto, using(crate::proofs::Heights::each_low))]
     pub fn lay(&mut self, n: u32, d: u32, results: u64, palettes: &[u32]) -> Result<u32, Refusal>
         ensures { let a = self.old in Replies (lay_refusal n d palettes.now) a result self.new (Lays a n d results palettes.now) }
     {
@@ -92,12 +86,14 @@ impl Record {
         if any_too_high(d, palettes) {
             return Err(Refusal::HighPalette);
         }
-        let places = placed(palettes);
+        let current = Moment {
+            palettes: placed(palettes),
+            results,
+            stand: Stand::Open,
+        };
         self.n = n;
         self.d = d;
-        self.palettes = places;
-        self.results = results;
-        self.stand = Stand::Open;
+        self.current = current;
         self.marks = 0;
         Ok(n)
     }

@@ -6,13 +6,15 @@
 mod laying;
 mod looking;
 mod marking;
+pub mod moment;
 mod narrowing;
 pub mod record;
 pub mod refusal;
 pub mod stand;
 pub mod undo;
 
+pub use moment::Moment;
 pub use record::Record;
 pub use refusal::Refusal;
 pub use stand::Stand;
-pub use undo::{Saved, UndoTable};
+pub use undo::UndoTable;

@@ -15,40 +15,36 @@ const LAST_RESULT: u32 = 63;
 impl Record {
     // Takes a hatching out of a part's palette, and answers how many are left there.
     pub fn withdraw(&mut self, part: u32, hatching: u32) -> Result<u32, Refusal>
-        ensures { let a = self.old in Replies (withdraw_refusal a.stand a.n a.d part hatching) a result self.new (Withdraws a part hatching) }
+        ensures { let a = self.old in Replies (withdraw_refusal a.current.stand a.n a.d part hatching) a result self.new (Withdraws a part hatching) }
     {
-        if self.stand.is_blank() {
-            return Err(Refusal::NoRow);
-        }
+        self.check_laid()?;
         if part >= self.n {
             return Err(Refusal::NoPart);
         }
         if hatching >= self.d {
             return Err(Refusal::NoHatching);
         }
-        let palette = self.palettes[part as usize];
+        let palette = self.current.palettes[part as usize];
         if palette.contains(hatching) {
-            self.stand = Stand::Open;
+            self.current.stand = Stand::Open;
         }
         let rest = palette.without(hatching);
-        self.palettes[part as usize] = rest;
+        self.current.palettes[part as usize] = rest;
         Ok(rest.count())
     }
 
     // Takes a result out of those that are allowed, and answers how many are left.
     pub fn limit(&mut self, outcome: u32) -> Result<u32, Refusal>
-        ensures { let a = self.old in Replies (limit_refusal a.stand outcome) a result self.new (Limits a outcome) }
+        ensures { let a = self.old in Replies (limit_refusal a.current.stand outcome) a result self.new (Limits a outcome) }
     {
-        if self.stand.is_blank() {
-            return Err(Refusal::NoRow);
-        }
+        self.check_laid()?;
         if outcome > LAST_RESULT {
             return Err(Refusal::NoResult);
         }
-        if self.results.contains(outcome) {
-            self.stand = Stand::Open;
+        if self.current.results.contains(outcome) {
+            self.current.stand = Stand::Open;
         }
-        self.results = self.results.without(outcome);
-        Ok(self.results.count())
+        self.current.results = self.current.results.without(outcome);
+        Ok(self.current.results.count())
     }
 }

@@ -5,23 +5,23 @@ ghost use Rattle.record.specs.Refusals.{refusal_number};
 #[derive(Clone, Copy, PartialEq, Eq, Debug)]
 pub enum Refusal {
     // there is no row yet
-    NoRow,
+    NoRow = 1,
     // not 1 to 60 parts or not 1 to 32 hatchings, or not a palette for each part
-    WrongSize,
+    WrongSize = 2,
     // a palette has a hatching that the row does not have
-    HighPalette,
+    HighPalette = 3,
     // the row has no such part
-    NoPart,
+    NoPart = 4,
     // the row has no such hatching
-    NoHatching,
+    NoHatching = 5,
     // the result is above 63
-    NoResult,
+    NoResult = 6,
     // eight marks are held
-    FullMarks,
+    FullMarks = 7,
     // no mark is held
-    NoMark,
+    NoMark = 8,
     // the scratch has fewer than 32 words for each part
-    ShortScratch,
+    ShortScratch = 9,
 }
 
 impl Refusal {
@@ -29,16 +29,6 @@ impl Refusal {
     pub fn number(self) -> u32
         ensures { result ≡ refusal_number self }
     {
-        match self {
-            Refusal::NoRow => 1,
-            Refusal::WrongSize => 2,
-            Refusal::HighPalette => 3,
-            Refusal::NoPart => 4,
-            Refusal::NoHatching => 5,
-            Refusal::NoResult => 6,
-            Refusal::FullMarks => 7,
-            Refusal::NoMark => 8,
-            Refusal::ShortScratch => 9,
-        }
+        self as u32
     }
 }

@@ -1,17 +1,19 @@
 // How a row stands.
-ghost use Rattle.std.specs.Prelude.{◌≡◌};
-ghost use Rattle.record.specs.Stands.{is_blank, stand_number};
+ghost use Rattle.std.specs.Prelude.{◌≡◌, Some};
+ghost use Rattle.record.specs.Stands.{is_blank, stand_name, stand_number};
+
+use std::fmt;
 
 #[derive(Clone, Copy, PartialEq, Eq, Debug)]
 pub enum Stand {
     // no row has been laid
-    Blank,
+    Blank = 0,
     // what can still stand is not known
-    Open,
+    Open = 1,
     // the palettes have exactly what can still stand
-    Settled,
+    Settled = 2,
     // no row can be completed
-    Dead,
+    Dead = 3,
 }
 
 impl Stand {
@@ -19,12 +21,7 @@ impl Stand {
     pub fn number(self) -> u32
         ensures { result ≡ stand_number self }
     {
-        match self {
-            Stand::Blank => 0,
-            Stand::Open => 1,
-            Stand::Settled => 2,
-            Stand::Dead => 3,
-        }
+        self as u32
     }
 
     // Whether there is no row yet.
@@ -32,5 +29,18 @@ impl Stand {
         ensures { result ≡ is_blank self }
     {
         matches!(self, Stand::Blank)
+    }
+}
+
+impl fmt::Display for Stand {
+    ghost output = { λ stand. Some (stand_name stand) };
+
+    fn fmt<W: fmt::Write>(&self, f: &mut fmt::Formatter<W>) -> fmt::Result {
+        match self {
+            Stand::Blank => f.write_str("blank"),
+            Stand::Open => f.write_str("open"),
+            Stand::Settled => f.write_str("settled"),
+            Stand::Dead => f.write_str("dead"),
+        }
     }
 }

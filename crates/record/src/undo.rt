@@ -2,25 +2,17 @@
 ghost use Rattle.std.specs.Prelude.{◌≡◌, ◌<◌, slice_index_or, slice_set};
 ghost use Rattle.record.specs.Copies.{no_copy};
 
-use crate::stand::Stand;
+use crate::moment::Moment;
 
-// What a mark keeps.
-#[derive(Clone, Copy)]
-pub struct Saved {
-    pub palettes: [u32; 60],
-    pub results: u64,
-    pub stand: Stand,
-}
-
-// Room for eight marks, the oldest first.
+// Room for eight marks, the oldest first: the engine has no heap, and the record counts those that are held.
 #[derive(Clone, Copy)]
 pub struct UndoTable {
-    pub saved: [Saved; 8],
+    pub saved: [Moment; 8],
 }
 
 impl UndoTable {
     // Writes a copy into place `at`.
-    pub(crate) fn put(&mut self, at: u32, saved: Saved)
+    pub(crate) fn put(&mut self, at: u32, saved: Moment)
         requires { at < 8 }
         ensures { self.new.saved ≡ slice_set self.old.saved at saved }
     {
@@ -28,7 +20,7 @@ impl UndoTable {
     }
 
     // The copy in place `at`.
-    pub(crate) fn get(&self, at: u32) -> Saved
+    pub(crate) fn get(&self, at: u32) -> Moment
         requires { at < 8 }
         ensures { result ≡ slice_index_or self.now.saved at no_copy }
     {

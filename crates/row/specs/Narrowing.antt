@@ -1,17 +1,11 @@
--- The palettes of a record narrowed to what the live states use. Assumes nothing.
-use Rattle.std.specs.Prelude.{◌≡◌, ℕ, ◌+◌, ◌<◌, ◌≤◌, List, slice_index}
+-- Palettes narrowed to what the live states use. Assumes nothing.
+use Rattle.std.specs.Prelude.{◌≡◌, ℕ, ◌+◌, ◌<◌, List, length, slice_index}
 use Rattle.words.specs.Sets.{In, Holds}
-use Rattle.record.specs.declared.record.Record.{Record}
-use Rattle.record.specs.Calls.{SameMarks, SameSize}
 use Rattle.verdicts.specs.Verdicts.{WordHas}
 use Rattle.bare.specs.Settling.{total}
 
 -- each palette keeps what it had of the hatchings that have a word with a state, and k hatchings fall
-pub record Narrows (a : Record) (live : List ℕ) (k : ℕ) (b : Record) : Type 0 where
-  pub palettes : (i : ℕ) → i < a.n → Holds (slice_index b.palettes i) (λ v. In v (slice_index a.palettes i) × ((s : ℕ) × WordHas live i v s))
-  pub others : (i : ℕ) → a.n ≤ i → slice_index b.palettes i ≡ slice_index a.palettes i
-  pub fallen : total a.n a.palettes ≡ total a.n b.palettes + k
-  pub results : b.results ≡ a.results
-  pub stand : b.stand ≡ a.stand
-  pub same_size : SameSize a b
-  pub same_marks : SameMarks a b
+pub record Narrows (before live : List ℕ) (k : ℕ) (after : List ℕ) : Type 0 where
+  pub size : length after ≡ length before
+  pub palettes : (i : ℕ) → i < length before → Holds (slice_index after i) (λ v. In v (slice_index before i) × ((s : ℕ) × WordHas live i v s))
+  pub fallen : total before ≡ total after + k

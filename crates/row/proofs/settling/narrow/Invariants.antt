@@ -1,18 +1,12 @@
-use Rattle.std.proofs.Common.{◌≡◌, ℕ, ◌+◌, ◌<◌, ◌≤◌, length, get_or}
+use Rattle.std.proofs.Common.{◌≡◌, ℕ, ◌+◌, ◌<◌, ◌≤◌, get_or}
 use Rattle.words.specs.Sets.{In, Holds}
 use Rattle.verdicts.specs.Verdicts.{WordHas}
-use Rattle.record.specs.Calls.{SameMarks, SameSize}
 use Rattle.bare.specs.Settling.{total}
 use Rattle.row.proofs.settling.narrow.Given as goal
 
--- the palettes below i are narrowed, and all else is as it was
+-- the palettes below i are narrowed, and the others are as they were
 abbrev pub invariant-loop-i : goal.invariant-loop-i
 invariant-loop-i l =
-    (length l.row.palettes ≡ 60)
-    × ((j : ℕ) → j < l.i → Holds (get_or l.row.palettes j 0) (λ v. In v (get_or l.initial.row.palettes j 0) × ((s : ℕ) × WordHas l.live j v s)))
-    × ((j : ℕ) → l.i ≤ j → get_or l.row.palettes j 0 ≡ get_or l.initial.row.palettes j 0)
-    × (total l.i l.initial.row.palettes ≡ total l.i l.row.palettes + l.fallen)
-    × (l.row.results ≡ l.initial.row.results)
-    × (l.row.stand ≡ l.initial.row.stand)
-    × SameSize l.initial.row l.row
-    × SameMarks l.initial.row l.row
+    ((j : ℕ) → j < l.i → Holds (get_or l.palettes j 0) (λ v. In v (get_or l.initial.palettes j 0) × ((s : ℕ) × WordHas l.live j v s)))
+    × ((j : ℕ) → l.i ≤ j → get_or l.palettes j 0 ≡ get_or l.initial.palettes j 0)
+    × (total l.initial.palettes ≡ total l.palettes + l.fallen)
