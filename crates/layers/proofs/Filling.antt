@@ -1,56 +1,17 @@
 -- The two loops over the members of a set, and what they make where what is given for each member is known. Assumes nothing.
-use Rattle.std.proofs.Common.{◌≡◌, ℕ, zero, suc, ◌<◌, ◌⊎◌, List, length, get_or, set, replicate, Some, sym, ◌∙◌, refl, subst, inl, inr, arith}
-use Rattle.std.proofs.lemmas.List.{length-set, get_or-set_same, get_or-set_other}
+use Rattle.std.proofs.Common.{◌≡◌, ℕ, ◌⊎◌, List, get_or, set, replicate, Some, sym, subst, inl, inr, arith}
+use Rattle.std.proofs.lemmas.List.{get_or-set_same, get_or-set_other}
 use Rattle.std.proofs.lemmas.Bool.{cases_eq}
-use Rattle.words.specs.Sets.{bit, In, Holds, HoldsEach, Takes}
+use Rattle.words.specs.Sets.{In, Holds, HoldsEach, Takes}
 use Rattle.words.proofs.Membership.{holds_zero}
-use Rattle.words.proofs.Walking.{Within}
+use Rattle.words.proofs.Walking.{Filling, zeros, fill_none, fill_more, each_holds}
 use Rattle.layers.specs.Layers.{IsLaid, IsUnited}
 
--- what the loop keeps true of a layer: the members that it has left behind have what was given for them, the others no state
-pub record Filling (given : ℕ → ℕ → Type 0) (whole rest : ℕ) (layer : List ℕ) : Type 0 where
-  pub within : Within rest whole
-  pub size : length layer ≡ 32
-  pub laid : (v : ℕ) → In v whole → (In v rest → ⊥) → given v (get_or layer v 0)
-  pub empty : (v : ℕ) → (In v whole → In v rest) → get_or layer v 0 ≡ 0
-
--- and of a set that unites what was given: it has the states of such a layer
+-- what the loop keeps true of a set that unites what was given: it has the states of a layer that is filled so
 abbrev pub Uniting : (ℕ → ℕ → Type 0) → ℕ → ℕ → ℕ → Type 0
 Uniting given whole rest all = (layer : List ℕ) × (Filling given whole rest layer × Holds all (λ s. (v : ℕ) × In s (get_or layer v 0)))
 
-zeros : (n v : ℕ) → get_or (replicate {A = ℕ} n 0) v 0 ≡ 0
-zeros zero v = refl
-zeros (suc n) zero = refl
-zeros (suc n) (suc v) = zeros n v
-
 module _ (given : ℕ → ℕ → Type 0) (whole : ℕ) where
-  pub fill_none : (rest : ℕ) → rest ≡ whole → Filling given whole rest (replicate 32 0)
-  fill_none rest e = record {
-    within = λ v i. subst (In v) e i;
-    size = refl;
-    laid = λ v i gone. absurd (gone (subst (In v) (sym e) i));
-    empty = λ v h. zeros 32 v;
-  }
-
-  -- the member s gets the set x
-  pub fill_more : (rest less s x : ℕ) (layer : List ℕ) → Takes 32 rest (Some s) less → given s x
-      → Filling given whole rest layer → Filling given whole less (set layer s x)
-  fill_more rest less s x layer taken gives h = record {
-    within = λ v i. h.within v ((taken.3 v).0 i).0;
-    size = length-set layer s x ∙ h.size;
-    laid = λ v i gone. elim (cases_eq v s) [
-      | inl e ↦ rw (e, get_or-set_same layer s x 0 fits) gives
-      | inr ne ↦ rw (get_or-set_other layer s v x 0 ne) (h.laid v i (λ j. gone ((taken.3 v).1 (j, ne))))
-    ];
-    empty = λ v kept. elim (cases_eq v s) [
-      | inl e ↦ absurd (((taken.3 v).0 (kept (h.within v (subst (λ (q : ℕ). In q rest) (sym e) taken.1)))).1 e)
-      | inr ne ↦ get_or-set_other layer s v x 0 ne ∙ h.empty v (λ i. ((taken.3 v).0 (kept i)).0)
-    ];
-  }
-    where
-      fits : s < length layer
-      fits = omega (arith, taken.0, h.size)
-
   pub fill_all : (rest : ℕ) (layer : List ℕ) → ((v : ℕ) → In v rest → ⊥) → Filling given whole rest layer → IsLaid given whole layer
   fill_all rest layer done h = record { size = h.size; each = λ v i. h.laid v i (done v); others = λ v no. h.empty v (λ i. absurd (no i)) }
 
@@ -58,7 +19,7 @@ module _ (given : ℕ → ℕ → Type 0) (whole : ℕ) where
   unite_none rest e = (
     replicate 32 0,
     (
-      fill_none rest e,
+      fill_none given whole rest e,
       λ s. (λ i. absurd ((holds_zero s).0 i), λ t. absurd ((holds_zero s).0 (subst (In s) (zeros 32 t.0) t.1))),
     ),
   )
@@ -67,7 +28,7 @@ module _ (given : ℕ → ℕ → Type 0) (whole : ℕ) where
   pub unite_more : (rest less m x all r : ℕ) → Takes 32 rest (Some m) less → given m x → Holds r (λ s. In s all ⊎ In s x)
       → Uniting given whole rest all → Uniting given whole less r
   unite_more rest less m x all r taken gives joined (layer, (h, holds)) =
-      (set layer m x, (fill_more rest less m x layer taken gives h, λ s. (λ i. into s ((joined s).0 i), λ t. (joined s).1 (out s t.0 t.1))))
+      (set layer m x, (fill_more given whole rest less m x layer taken gives h, λ s. (λ i. into s ((joined s).0 i), λ t. (joined s).1 (out s t.0 t.1))))
     where
       here : get_or (set layer m x) m 0 ≡ x
       here = get_or-set_same layer m x 0 (omega (arith, taken.0, h.size))
@@ -95,13 +56,7 @@ module _ (given : ℕ → ℕ → Type 0) (whole : ℕ) where
 
   module _ (P : ℕ → ℕ → Type 0) (means : (v x : ℕ) → In v whole → given v x → Holds x (P v)) where
     pub holds_laid : (layer : List ℕ) → IsLaid given whole layer → HoldsEach layer (λ v s. In v whole × P v s)
-    holds_laid layer h v s = (
-      λ i. elim (cases_eq (bit whole v) 1) [
-        | inl there ↦ (there, (means v (get_or layer v 0) there (h.each v there) s).0 i)
-        | inr not_there ↦ absurd ((holds_zero s).0 (subst (In s) (h.others v not_there) i))
-      ],
-      λ t. (means v (get_or layer v 0) t.0 (h.each v t.0) s).1 t.1,
-    )
+    holds_laid layer h = each_holds whole layer P (λ v i. means v (get_or layer v 0) i (h.each v i)) h.others
 
     pub holds_united : (all : ℕ) → IsUnited given whole all → Holds all (λ s. (v : ℕ) × (In v whole × P v s))
     holds_united all (layer, (h, holds)) s = (

@@ -1,8 +1,8 @@
 -- Loops that build sets. Assumes nothing.
-use Rattle.std.proofs.Common.{◌≡◌, ℕ, zero, suc, ◌+◌, ◌<◌, ◌⊎◌, List, length, get_or, set, replicate, Some, sym, refl, subst, inl, inr, arith}
-use Rattle.std.proofs.lemmas.List.{get_or-set_same, get_or-set_other}
+use Rattle.std.proofs.Common.{◌≡◌, ℕ, zero, suc, ◌+◌, ◌<◌, ◌⊎◌, List, length, get_or, set, replicate, Some, sym, refl, ◌∙◌, subst, inl, inr, arith}
+use Rattle.std.proofs.lemmas.List.{length-set, get_or-set_same, get_or-set_other}
 use Rattle.std.proofs.lemmas.Bool.{cases_eq}
-use Rattle.words.specs.Sets.{In, Holds, Takes}
+use Rattle.words.specs.Sets.{bit, In, Holds, HoldsEach, Takes}
 use Rattle.words.proofs.Membership.{holds_zero}
 
 -- the same set, said otherwise
@@ -16,13 +16,6 @@ joined_one n all r m P h small only k = (
   λ i. elim ((h k).0 i) [ inl j ↦ inl j | inr e ↦ inr ((only k).1 e.0) ],
   λ t. (h k).1 (elim t [ inl j ↦ inl j | inr p ↦ inr ((only k).0 p, small) ]),
 )
-
--- m put into the empty set
-pub holds_one : (n r m : ℕ) (P : ℕ → Type 0) → Holds r (λ j. In j 0 ⊎ ((j ≡ m) × (m < n))) → m < n
-    → ((k : ℕ) → (P k → k ≡ m) × (k ≡ m → P k)) → Holds r P
-holds_one n r m P h small only k =
-    let joined = joined_one n 0 r m P h small only k in
-    (λ i. elim (joined.0 i) [ inl none ↦ absurd ((holds_zero k).0 none) | inr p ↦ p ], λ p. joined.1 (inr p))
 
 -- ---- a loop over all numbers in turn, which keeps those of which P is true
 
@@ -104,49 +97,64 @@ module _ (F : ℕ → ℕ → Type 0) (whole : ℕ) where
   pub gather_all : (rest all : ℕ) → ((k : ℕ) → In k rest → ⊥) → Gathering F whole rest all → Holds all (λ k. (p : ℕ) × (In p whole × F p k))
   gather_all rest all done (within, h) k = (λ i. let t = (h k).0 i in (t.0, (t.1.0, t.1.1.1)), λ t. (h k).1 (t.0, (t.1.0, (done t.0, t.1.1))))
 
--- ---- a list that gets a set for each member: F p k says that k is in the set of the member p
+-- ---- a list of 32 sets that gets one for each member: given v x says that x may be the set of the member v
 
--- what the loop keeps true of the list: the sets of the members that it has left behind are laid, the others are empty
-abbrev pub Laying : (ℕ → ℕ → Type 0) → ℕ → ℕ → List ℕ → Type 0
-Laying F whole rest sets = Within rest whole × ((p : ℕ) → Holds (get_or sets p 0) (λ k. In p whole × ((In p rest → ⊥) × F p k)))
+-- what the loop keeps true: the members that it has left behind have what was given for them, the others the empty set
+pub record Filling (given : ℕ → ℕ → Type 0) (whole rest : ℕ) (sets : List ℕ) : Type 0 where
+  pub within : Within rest whole
+  pub size : length sets ≡ 32
+  pub laid : (v : ℕ) → In v whole → (In v rest → ⊥) → given v (get_or sets v 0)
+  pub empty : (v : ℕ) → (In v whole → In v rest) → get_or sets v 0 ≡ 0
 
-module _ (F : ℕ → ℕ → Type 0) (whole : ℕ) where
-  pub lay_none : (n rest : ℕ) → rest ≡ whole → Laying F whole rest (replicate n 0)
-  lay_none n rest e = (
-    within_all rest whole e,
-    λ p k. (
-      λ i. absurd ((holds_zero k).0 (subst (In k) (empty n p) i)),
-      λ t. absurd (t.1.0 (subst (In p) (sym e) t.0)),
-    ),
-  )
-    where
-      empty : (n p : ℕ) → get_or (replicate {A = ℕ} n 0) p 0 ≡ 0
-      empty zero p = refl
-      empty (suc n) zero = refl
-      empty (suc n) (suc p) = empty n p
+pub zeros : (n v : ℕ) → get_or (replicate {A = ℕ} n 0) v 0 ≡ 0
+zeros zero v = refl
+zeros (suc n) zero = refl
+zeros (suc n) (suc v) = zeros n v
+
+module _ (given : ℕ → ℕ → Type 0) (whole : ℕ) where
+  pub fill_none : (rest : ℕ) → rest ≡ whole → Filling given whole rest (replicate 32 0)
+  fill_none rest e = record {
+    within = λ v i. subst (In v) e i;
+    size = refl;
+    laid = λ v i gone. absurd (gone (subst (In v) (sym e) i));
+    empty = λ v h. zeros 32 v;
+  }
 
   -- the member s gets the set x
-  pub lay_more : (n rest less s x : ℕ) (sets : List ℕ) → Takes n rest (Some s) less → s < length sets → Holds x (F s)
-      → Laying F whole rest sets → Laying F whole less (set sets s x)
-  lay_more n rest less s x sets taken fits given (within, h) = (within_more n whole rest less s taken within, λ p. at p (cases_eq p s))
+  pub fill_more : (rest less s x : ℕ) (sets : List ℕ) → Takes 32 rest (Some s) less → given s x
+      → Filling given whole rest sets → Filling given whole less (set sets s x)
+  fill_more rest less s x sets taken gives h = record {
+    within = λ v i. h.within v ((taken.3 v).0 i).0;
+    size = length-set sets s x ∙ h.size;
+    laid = λ v i gone. elim (cases_eq v s) [
+      | inl e ↦ rw (e, get_or-set_same sets s x 0 fits) gives
+      | inr ne ↦ rw (get_or-set_other sets s v x 0 ne) (h.laid v i (λ j. gone ((taken.3 v).1 (j, ne))))
+    ];
+    empty = λ v kept. elim (cases_eq v s) [
+      | inl e ↦ absurd (((taken.3 v).0 (kept (h.within v (subst (λ (q : ℕ). In q rest) (sym e) taken.1)))).1 e)
+      | inr ne ↦ get_or-set_other sets s v x 0 ne ∙ h.empty v (λ i. ((taken.3 v).0 (kept i)).0)
+    ];
+  }
     where
-      here : Holds x (λ k. In s whole × ((In s less → ⊥) × F s k))
-      here k = (λ i. (within s taken.1, (λ j. ((taken.3 s).0 j).1 refl, (given k).0 i)), λ t. (given k).1 t.1.1)
+      fits : s < length sets
+      fits = omega (arith, taken.0, h.size)
 
-      there : (p : ℕ) → (p ≡ s → ⊥) → Holds (get_or sets p 0) (λ k. In p whole × ((In p less → ⊥) × F p k))
-      there p ne k = (
-        λ i. let t = (h p k).0 i in (t.0, (λ j. t.1.0 ((taken.3 p).0 j).0, t.1.1)),
-        λ t. (h p k).1 (t.0, (λ i. t.1.0 ((taken.3 p).1 (i, ne)), t.1.1)),
-      )
+-- sets of which the members' are known and the others are empty
+pub each_holds : (whole : ℕ) (sets : List ℕ) (P : ℕ → ℕ → Type 0) → ((v : ℕ) → In v whole → Holds (get_or sets v 0) (P v))
+    → ((v : ℕ) → (In v whole → ⊥) → get_or sets v 0 ≡ 0) → HoldsEach sets (λ v s. In v whole × P v s)
+each_holds whole sets P members others v s = (
+  λ i. elim (cases_eq (bit whole v) 1) [
+    | inl there ↦ (there, (members v there s).0 i)
+    | inr not_there ↦ absurd ((holds_zero s).0 (subst (In s) (others v not_there) i))
+  ],
+  λ t. (members v t.0 s).1 t.1,
+)
 
-      at : (p : ℕ) → (p ≡ s) ⊎ (p ≡ s → ⊥) → Holds (get_or (set sets s x) p 0) (λ k. In p whole × ((In p less → ⊥) × F p k))
-      at p (inl e) = subst (λ (q : ℕ). Holds (get_or (set sets s x) q 0) (λ k. In q whole × ((In q less → ⊥) × F q k))) (sym e)
-          (subst (λ (y : ℕ). Holds y (λ k. In s whole × ((In s less → ⊥) × F s k))) (sym (get_or-set_same sets s x 0 fits)) here)
-      at p (inr ne) = subst (λ (y : ℕ). Holds y (λ k. In p whole × ((In p less → ⊥) × F p k))) (sym (get_or-set_other sets s p x 0 ne)) (there p ne)
-
-  pub lay_all : (rest : ℕ) (sets : List ℕ) → ((k : ℕ) → In k rest → ⊥) → Laying F whole rest sets
-      → (p : ℕ) → Holds (get_or sets p 0) (λ k. In p whole × F p k)
-  lay_all rest sets done (within, h) p k = (λ i. let t = (h p k).0 i in (t.0, t.1.1), λ t. (h p k).1 (t.0, (done p, t.1)))
+-- and so where the loop has left all members behind
+pub fill_holds : (F : ℕ → ℕ → Type 0) (whole rest : ℕ) (sets : List ℕ) → ((k : ℕ) → In k rest → ⊥)
+    → Filling (λ v x. Holds x (F v)) whole rest sets → HoldsEach sets (λ v k. In v whole × F v k)
+fill_holds F whole rest sets done h =
+    each_holds whole sets F (λ v i. h.laid v i (done v)) (λ v no. h.empty v (λ i. absurd (no i)))
 
 -- ---- a loop that looks for a member
 

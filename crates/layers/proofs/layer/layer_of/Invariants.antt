@@ -1,4 +1,4 @@
-use Rattle.layers.proofs.Filling.{Filling}
+use Rattle.words.proofs.Walking.{Filling}
 use Rattle.layers.proofs.layer.layer_of.Given as goal
 
 abbrev pub invariant-loop-v : goal.invariant-loop-v
