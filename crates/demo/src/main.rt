@@ -20,10 +20,10 @@ const TWO: u64 = 0b100;
 // The stand, and for each part the hatchings that were laid there.
 fn show_row(rt: &HostRuntime, row: &DemoRow) -> io::Result<()> {
     print!(rt; "    {}:", row.stand())?;
-    for (i, laid) in LAID.iter().enumerate() {
+    for (laid, palette) in LAID.iter().zip(&row.record.current.palettes) {
         print!(rt; " |")?;
         for v in members(*laid) {
-            if i < 60 && row.record.current.palettes[i].contains(v) {
+            if palette.contains(v) {
                 print!(rt; " {v} ")?;
             } else {
                 print!(rt; "({v})")?;

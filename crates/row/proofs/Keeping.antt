@@ -38,15 +38,15 @@ module _ (old front : List ℕ) (n : ℕ) (size : length front ≡ n) where
   take_front = rw (sym size) (take-append_seam front (drop (length front) old))
 
 module _ (m : Model) (ps : List ℕ) (allowed : ℕ) where
-  -- of a palette p, the hatchings whose word has a live state
-  pub kept_used : (words : List ℕ) → Palettes ps → Lives m ps allowed words → (i p r : ℕ) → i < length ps → p ≡ get_or ps i 0
-      → Holds r (λ v. In v p × ((s : ℕ) × WordHas words i v s)) → Holds r (Uses m ps allowed i)
-  kept_used words small lives i p r inside same h v = (
+  -- of a palette, the hatchings whose word has a live state
+  pub kept_used : (words : List ℕ) → Palettes ps → Lives m ps allowed words → (i r : ℕ) → i < length ps
+      → Holds r (λ v. In v (get_or ps i 0) × ((s : ℕ) × WordHas words i v s)) → Holds r (Uses m ps allowed i)
+  kept_used words small lives i r inside h v = (
     λ k. let t = (h v).0 k in let l = live_word m ps allowed words small lives i v t.1.0 inside t.1.1 in (l.0, (l.1.0, l.1.1)),
     λ (xs, (whole, at)).
         let s : ℕ = state m.machine (take (i + 1) xs) in
         let chosen : In v (get_or ps i 0) = subst (λ (x : ℕ). In x (get_or ps i 0)) at (whole.chosen i (omega (arith, whole.parts))) in
-        (h v).1 (subst (In v) (sym same) chosen, (s, word_live m ps allowed words small lives i v s inside (xs, (whole, at, refl)))),
+        (h v).1 (chosen, (s, word_live m ps allowed words small lives i v s inside (xs, (whole, at, refl)))),
   )
 
   -- of the allowed results, those that some complete row has

@@ -50,11 +50,11 @@ fn strike<T: Tally>(tally: &T, row: &mut Record, live: &[u64]) -> (u32, u32)
     requires { 0 < row.old.n }
     ensures { let a = row.old in ((p : ℕ → ℕ → Bool) → Lives (model p (T.machine tally.now)) (parts_of a) a.current.results live.now → Settles (model p (T.machine tally.now)) a result.0 result.1 row.new) }
 {
+    let parts = row.n as usize;
     let mut palettes = row.current.palettes;
-    let hatchings = narrow(&mut palettes[..row.n as usize], live);
-    let last = row.n as usize - 1;
+    let hatchings = narrow(&mut palettes[..parts], live);
     let allowed = row.current.results;
-    let had = allowed.intersection(results_at(tally, live, last));
+    let had = allowed.intersection(results_at(tally, live, parts - 1));
     let results = allowed.count() - had.count();
     row.current = Moment {
         palettes,

@@ -40,7 +40,7 @@ returns g c p lives =
     let judged = c.judgement.ensures.stand m ps a.current.results (parts_small a) lives some in
     record {
       used = λ i l. let inside : i < length ps = omega (arith, parts) in
-          rw (front_at old front a.n whole i l) (kept_used m ps a.current.results live (parts_small a) lives i (get_or ps i 0) (get_or front i 0) inside refl (narrowed.palettes i inside));
+          rw (front_at old front a.n whole i l) (kept_used m ps a.current.results live (parts_small a) lives i (get_or front i 0) inside (narrowed.palettes i inside));
       others = behind_at old front a.n whole;
       had = search rules;
       settled = judged.0;
