@@ -1,8 +1,5 @@
 // What the program tells of a row.
 ghost use Rattle.std.specs.Prelude.{ℕ, List, MatchResult};
-ghost use Rattle.rules.specs.Formulas.{formula_pairs};
-ghost use Rattle.tallies.specs.Rows.{Faulty};
-ghost use Rattle.tallies.specs.Stretches.{Stretches};
 ghost use Rattle.counting.specs.Counts.{Counted};
 ghost use Rattle.counting.specs.Faults.{Told, Uncounted};
 ghost use Rattle.counting.specs.Lines.{Reads};
