@@ -31,9 +31,7 @@ pub fn numbers(heap: Global, line: &[u8]) -> Result<Vec<u32>, LineFault>
 {
     let mut found = Vec::new(heap);
     for word in line.split(|b| is_blank(*b)).filter(|word| !word.is_empty()) {
-        let Some(n) = number(word) else {
-            return Err(LineFault::NoNumber(found.len()));
-        };
+        let n = number(word).ok_or(LineFault::NoNumber(found.len()))?;
         found.push(n)?;
     }
     Ok(found)

@@ -1,8 +1,9 @@
-use Rattle.std.proofs.Common.{map, length, vec_items, sym, ap, ◌∙◌, subst, arith, rules}
+use Rattle.std.proofs.Common.{◌≡◌, Err, map, length, vec_items, sym, ap, ◌∙◌, subst, arith, rules}
 use Rattle.std.proofs.lemmas.Iterator.{YieldsList}
 use Rattle.std.proofs.lemmas.Iterator.Consumers.{YieldsList-at, YieldsList-from_filter, YieldsList-turn, YieldsList-end}
 use Rattle.std.proofs.lemmas.Iterator.Splits.{YieldsList-from_slice_split}
 use Rattle.std.proofs.lemmas.List.{length_push, take_all}
+use Rattle.counting.specs.declared.fault.LineFault.TheVariants.{NoNumber}
 use Rattle.counting.specs.Lines.{blank, number_of, words}
 use Rattle.counting.proofs.Splitting.{inked, inked_length, words_pieces}
 use Rattle.counting.proofs.Unread.{first_unread, read_more}
@@ -18,11 +19,12 @@ loop-word-init c = record {
   read = search rules;
 }
 
-pub returns-in_default : goal.returns-in_default
-returns-in_default c =
+pub returns-in_err-n : goal.returns-in_err-n
+returns-in_err-n c =
     let l = c.loop-word in
     let turn = YieldsList-turn l.invariant.given l.yielded l.word-iterator l.yielded_by c.next.result c.next.new.self c.in-Some.word c.in-Some.is c.next.ensures.steps in
-    first_unread (words c.args.line.now) (length l.yielded) (vec_items l.found) l.invariant.read c.in-Some.word.now turn c.len.result (search rules) (search rules)
+    let told : c.from_residual.result ≡ Err (NoNumber c.len.result) = search rules in
+    rw told (first_unread (words c.args.line.now) (length l.yielded) (vec_items l.found) l.invariant.read c.in-Some.word.now turn c.len.result (search rules) (search rules))
 
 pub loop-word-preserved : goal.loop-word-preserved
 loop-word-preserved c =
@@ -31,7 +33,7 @@ loop-word-preserved c =
     record {
       given = l.invariant.given;
       read = rw (length_push l.yielded c.in-Some.word)
-          (read_more (words c.args.line.now) (length l.yielded) (vec_items l.found) l.invariant.read c.in-Some.word.now turn c.in-Some-number.n (vec_items c.push.new.self) (search rules) (search rules));
+          (read_more (words c.args.line.now) (length l.yielded) (vec_items l.found) l.invariant.read c.in-Some.word.now turn c.in_ok-n.n (vec_items c.push.new.self) (search rules) (search rules));
     }
 
 pub returns : goal.returns
