@@ -7,6 +7,7 @@ use rules::{Mirror, NeighbourRule, TableRule};
 use words::{WordSet, members, union_of};
 
 // For each hatching, those that may stand right after it and right before it.
+// Two arrays and not one of pairs: a pass reads one of them, the forward pass `before`, the backward pass `after`.
 #[derive(Clone, Copy)]
 pub struct Neighbours {
     pub after: [u32; 32],

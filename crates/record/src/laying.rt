@@ -73,6 +73,7 @@ impl Record {
     }
 
     // Lays a row of n parts and d hatchings, and answers how many parts it has.
+    // n stands beside the palettes since a caller says both, and is refused where they differ.
     #[tactic(auto, using(crate::proofs::Heights::each_low))]
     pub fn lay(&mut self, n: u32, d: u32, results: u64, palettes: &[u32]) -> Result<u32, Refusal>
         ensures { let a = self.old in Replies (lay_refusal n d palettes.now) a result self.new (Lays a n d results palettes.now) }

@@ -1,5 +1,6 @@
 // The calls of a row. Each contract says what is replied and left, for every argument; that rule and tally stay; and
 // that the row goes on agreeing with what the calls alone make of a bare record.
+// That rule and tally stay is said at each call: an invariant of the type speaks of one value, not of before and after.
 ghost use Rattle.std.specs.Prelude.{◌≡◌, ℕ, ◌*◌, length, Ok, Err, Option};
 ghost use Rattle.layers.specs.Rows.{model};
 ghost use Rattle.layers.specs.Scratch.{Lives, SameFrom};

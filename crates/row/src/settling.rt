@@ -1,12 +1,12 @@
 // Settle: what no complete row uses or has is struck from the row.
 ghost use Rattle.std.specs.Prelude.{◌≡◌, ℕ, ◌*◌, ◌<◌, ◌≤◌, Bool, false, List, length, Ok, Err};
-ghost use Rattle.layers.specs.Rows.{Model, model, Possible};
+ghost use Rattle.layers.specs.Rows.{model, Possible};
 ghost use Rattle.layers.specs.Scratch.{Lives, SameFrom};
 ghost use Rattle.record.specs.declared.stand.Stand.TheVariants.{Settled, Dead};
 ghost use Rattle.record.specs.Refusals.{settle_refusal};
 ghost use Rattle.record.specs.Replies.{By, Replies};
 ghost use Rattle.record.specs.Stands.{is_blank};
-ghost use Rattle.verdicts.specs.Verdicts.{Palettes};
+ghost use Rattle.verdicts.specs.Verdicts.{WhereLive};
 ghost use Rattle.bare.specs.Settling.{Settles, parts_of};
 ghost use Rattle.row.specs.Narrowing.{Narrows};
 
@@ -34,7 +34,7 @@ fn narrow(palettes: &mut [u32], live: &[u64]) -> u32
 
 // How a row stands once its live states are found: settled, or dead where there is no complete row.
 fn judgement(live: &[u64]) -> Stand
-    ensures stand { (m : Model) (palettes : List ℕ) (allowed : ℕ) → Palettes palettes → Lives m palettes allowed live.now → 0 < length palettes → (Possible m palettes allowed → result ≡ Settled) × ((Possible m palettes allowed → ⊥) → result ≡ Dead) }
+    ensures stand { WhereLive live.now (λ m palettes allowed. 0 < length palettes → (Possible m palettes allowed → result ≡ Settled) × ((Possible m palettes allowed → ⊥) → result ≡ Dead)) }
     ensures laid { is_blank result ≡ false }
 {
     if is_possible(live) {

@@ -66,6 +66,7 @@ impl NeighbourRule for FormulaRule {
         if a >= 32 || b >= 32 {
             return false;
         }
+        // A match and no closures: the seven are a closed list, and a rule is a plain value that can be copied and compared.
         match *self {
             FormulaRule::Always => true,
             FormulaRule::Equal => a == b,
