@@ -1,7 +1,7 @@
 -- The two loops over the members of a set, and what they make where what is given for each member is known. Assumes nothing.
-use Rattle.std.proofs.Common.{◌≡◌, ℕ, zero, suc, ◌<◌, ◌⊎◌, List, length, get_or, set, replicate, Some, sym, ◌∙◌, refl, subst, inl, inr, arith}
-use Rattle.std.proofs.lemmas.List.{length-set, get_or-set_same, get_or-set_other}
-use Rattle.std.proofs.lemmas.Bool.{cases_eq}
+use Rattle.std.proofs.Common.{◌≡◌, ℕ, ◌<◌, ◌⊎◌, List, length, get_or, set, replicate, Some, sym, ◌∙◌, refl, subst, inl, inr, arith}
+use Rattle.std.proofs.lemmas.List.{length-set, get_or-set_same, get_or-set_other, get_or-replicate, get_or_past}
+use Rattle.std.proofs.lemmas.Bool.{cases_eq, cases_lt}
 use Rattle.words.specs.Sets.{bit, In, Holds, HoldsEach, Takes}
 use Rattle.words.proofs.Membership.{holds_zero}
 use Rattle.words.proofs.Walking.{Within}
@@ -18,10 +18,9 @@ pub record Filling (given : ℕ → ℕ → Type 0) (whole rest : ℕ) (layer : 
 abbrev pub Uniting : (ℕ → ℕ → Type 0) → ℕ → ℕ → ℕ → Type 0
 Uniting given whole rest all = (layer : List ℕ) × (Filling given whole rest layer × Holds all (λ s. (v : ℕ) × In s (get_or layer v 0)))
 
-zeros : (n v : ℕ) → get_or (replicate {A = ℕ} n 0) v 0 ≡ 0
-zeros zero v = refl
-zeros (suc n) zero = refl
-zeros (suc n) (suc v) = zeros n v
+-- a layer with no state
+none_there : (v : ℕ) → get_or (replicate {A = ℕ} 32 0) v 0 ≡ 0
+none_there v = elim (cases_lt v 32) [ inl l ↦ get_or-replicate 32 v 0 0 l | inr l ↦ get_or_past (replicate 32 0) v 0 (omega arith) ]
 
 module _ (given : ℕ → ℕ → Type 0) (whole : ℕ) where
   pub fill_none : (rest : ℕ) → rest ≡ whole → Filling given whole rest (replicate 32 0)
@@ -29,7 +28,7 @@ module _ (given : ℕ → ℕ → Type 0) (whole : ℕ) where
     within = λ v i. subst (In v) e i;
     size = refl;
     laid = λ v i gone. absurd (gone (subst (In v) (sym e) i));
-    empty = λ v h. zeros 32 v;
+    empty = λ v h. none_there v;
   }
 
   -- the member s gets the set x
@@ -59,7 +58,7 @@ module _ (given : ℕ → ℕ → Type 0) (whole : ℕ) where
     replicate 32 0,
     (
       fill_none rest e,
-      λ s. (λ i. absurd ((holds_zero s).0 i), λ t. absurd ((holds_zero s).0 (subst (In s) (zeros 32 t.0) t.1))),
+      λ s. (λ i. absurd ((holds_zero s).0 i), λ t. absurd ((holds_zero s).0 (subst (In s) (none_there t.0) t.1))),
     ),
   )
 
