@@ -4,7 +4,7 @@ use Rattle.std.proofs.lemmas.List.{get_or-set_same, get_or-set_other}
 use Rattle.std.proofs.lemmas.Bool.{cases_eq}
 use Rattle.words.specs.Sets.{In, Holds, HoldsEach, Takes}
 use Rattle.words.proofs.Membership.{holds_zero}
-use Rattle.words.proofs.Walking.{Filling, zeros, fill_none, fill_more, each_holds}
+use Rattle.words.proofs.Walking.{Filling, none_there, fill_none, fill_more, each_holds}
 use Rattle.layers.specs.Layers.{IsLaid, IsUnited}
 
 -- what the loop keeps true of a set that unites what was given: it has the states of a layer that is filled so
@@ -20,7 +20,7 @@ module _ (given : ℕ → ℕ → Type 0) (whole : ℕ) where
     replicate 32 0,
     (
       fill_none given whole rest e,
-      λ s. (λ i. absurd ((holds_zero s).0 i), λ t. absurd ((holds_zero s).0 (subst (In s) (zeros 32 t.0) t.1))),
+      λ s. (λ i. absurd ((holds_zero s).0 i), λ t. absurd ((holds_zero s).0 (subst (In s) (none_there t.0) t.1))),
     ),
   )
 

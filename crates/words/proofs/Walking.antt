@@ -1,7 +1,7 @@
 -- Loops that build sets. Assumes nothing.
 use Rattle.std.proofs.Common.{◌≡◌, ℕ, zero, suc, ◌+◌, ◌<◌, ◌⊎◌, List, length, get_or, set, replicate, Some, sym, refl, ◌∙◌, subst, inl, inr, arith}
-use Rattle.std.proofs.lemmas.List.{length-set, get_or-set_same, get_or-set_other}
-use Rattle.std.proofs.lemmas.Bool.{cases_eq}
+use Rattle.std.proofs.lemmas.List.{length-set, get_or-set_same, get_or-set_other, get_or-replicate, get_or_past}
+use Rattle.std.proofs.lemmas.Bool.{cases_eq, cases_lt}
 use Rattle.words.specs.Sets.{bit, In, Holds, HoldsEach, Takes}
 use Rattle.words.proofs.Membership.{holds_zero}
 
@@ -106,10 +106,9 @@ pub record Filling (given : ℕ → ℕ → Type 0) (whole rest : ℕ) (sets : L
   pub laid : (v : ℕ) → In v whole → (In v rest → ⊥) → given v (get_or sets v 0)
   pub empty : (v : ℕ) → (In v whole → In v rest) → get_or sets v 0 ≡ 0
 
-pub zeros : (n v : ℕ) → get_or (replicate {A = ℕ} n 0) v 0 ≡ 0
-zeros zero v = refl
-zeros (suc n) zero = refl
-zeros (suc n) (suc v) = zeros n v
+-- a list with empty sets alone
+pub none_there : (v : ℕ) → get_or (replicate {A = ℕ} 32 0) v 0 ≡ 0
+none_there v = elim (cases_lt v 32) [ inl l ↦ get_or-replicate 32 v 0 0 l | inr l ↦ get_or_past (replicate 32 0) v 0 (omega arith) ]
 
 module _ (given : ℕ → ℕ → Type 0) (whole : ℕ) where
   pub fill_none : (rest : ℕ) → rest ≡ whole → Filling given whole rest (replicate 32 0)
@@ -117,7 +116,7 @@ module _ (given : ℕ → ℕ → Type 0) (whole : ℕ) where
     within = λ v i. subst (In v) e i;
     size = refl;
     laid = λ v i gone. absurd (gone (subst (In v) (sym e) i));
-    empty = λ v h. zeros 32 v;
+    empty = λ v h. none_there v;
   }
 
   -- the member s gets the set x
