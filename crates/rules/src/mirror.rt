@@ -12,7 +12,7 @@ pub struct Mirror<R> {
 }
 
 impl<R: NeighbourRule> NeighbourRule for Mirror<R> {
-    ghost pairs = { λ m. mirrored (R.NeighbourRule.pairs m.rule) };
+    ghost pairs = { λ m. mirrored (R.pairs m.rule) };
 
     ghost below = { Prim.search rules };
 
@@ -24,8 +24,8 @@ impl<R: NeighbourRule> NeighbourRule for Mirror<R> {
 impl<R: NeighbourRule> Mirror<Mirror<R>> {
     // Asks the outer mirror. A mirror over a mirror has the innermost set, so the innermost rule's answer comes.
     pub fn allows_as_innermost(&self, a: u32, b: u32) -> bool
-        ensures set { mirrored (mirrored (R.NeighbourRule.pairs self.now.rule.rule)) ≡ R.NeighbourRule.pairs self.now.rule.rule }
-        ensures answer { result ≡ R.NeighbourRule.pairs self.now.rule.rule a b }
+        ensures set { mirrored (mirrored (R.pairs self.now.rule.rule)) ≡ R.pairs self.now.rule.rule }
+        ensures answer { result ≡ R.pairs self.now.rule.rule a b }
     {
         self.allows(a, b)
     }

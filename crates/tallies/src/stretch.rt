@@ -23,7 +23,7 @@ impl<C: NeighbourRule> Tally for StretchCounter<C> {
 
     ghost STATES = { 64 };
 
-    ghost machine = { λ t. stretch_machine (C.NeighbourRule.pairs t.rule) };
+    ghost machine = { λ t. stretch_machine (C.pairs t.rule) };
 
     ghost laws = { Prim.search rules };
 
@@ -71,14 +71,14 @@ impl<C: NeighbourRule> StretchCounter<C> {
     // How many stretches a finished row has.
     // The counter's result is the SEQBIN count up to 63, and for at most 60 parts that count itself.
     pub fn stretches_in(&self, row: FinishedRow<'_>) -> u32
-        ensures { Stretches (C.NeighbourRule.pairs self.now.rule) row.entry.hatchings.now result }
+        ensures { Stretches (C.pairs self.now.rule) row.entry.hatchings.now result }
     {
         outcome_of(self, row.hatchings)
     }
 
     // The same of numbers, where they are a finished row.
     pub fn stretches(&self, row: &[u32]) -> Result<u32, RowFault>
-        ensures { MatchResult result (Stretches (C.NeighbourRule.pairs self.now.rule) row.now) (Faulty row.now) }
+        ensures { MatchResult result (Stretches (C.pairs self.now.rule) row.now) (Faulty row.now) }
     {
         Ok(self.stretches_in(FinishedRow::new(row)?))
     }

@@ -3,7 +3,7 @@
 ghost use Rattle.std.specs.Prelude.{◌≡◌, ℕ, ◌+◌, ◌*◌, ◌<◌, ◌≤◌, true, length, MatchResult, slice_index};
 ghost use Rattle.words.specs.Sets.{In, Lowest};
 ghost use Rattle.layers.specs.declared.shortage.Shortage.{Shortage};
-ghost use Rattle.layers.specs.Scratch.{Lives, SameFrom, Shortens};
+ghost use Rattle.layers.specs.Scratch.{HasRoom, Lives, SameFrom, Shortens};
 ghost use Rattle.verdicts.specs.Verdicts.{Fills, IsLowest};
 ghost use Rattle.layers.specs.Rows.{model};
 
@@ -27,7 +27,7 @@ fn lowest<F: Fn(u32) -> bool>(palette: u32, test: F) -> Option<u32>
 
 // The lowest hatching of the palette that a complete row begins with.
 fn first_hatching<T: Tally>(tally: &T, palette: u32, live: &[u64]) -> Option<u32>
-    requires { 32 ≤ length live.now }
+    requires { HasRoom 1 live.now }
     ensures { Lowest (λ v. In v palette × In ((T.machine tally.now).start v) (slice_index live.now v)) 0 result }
 {
     lowest(palette, |v| live[v as usize].contains(tally.start(v)))
@@ -43,7 +43,7 @@ fn next_hatching<R: NeighbourRule, T: Tally>(
     v: u32,
     s: u32,
 ) -> Option<u32>
-    requires { 32 * i + 32 ≤ length live.now }
+    requires { HasRoom (i + 1) live.now }
     ensures { Lowest (λ w. In w palette × ((R.pairs rule.now v w ≡ true) × In ((T.machine tally.now).step s v w) (slice_index live.now (32 * i + w)))) 0 result }
 {
     lowest(palette, |w| {
@@ -60,7 +60,7 @@ fn walk<R: NeighbourRule, T: Tally>(
     live: &[u64],
     strip: &mut [u8],
 ) -> Option<u32>
-    requires words { 32 * length palettes.now ≤ length live.now }
+    requires words { HasRoom (length palettes.now) live.now }
     requires bytes { length palettes.now ≤ length strip.old }
     ensures { let m = model (R.pairs rule.now) (T.machine tally.now) in ((allowed : ℕ) → Lives m palettes.now allowed live.now → Fills m palettes.now allowed strip.old strip.new result) }
 {

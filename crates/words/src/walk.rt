@@ -14,9 +14,9 @@ pub struct Ascending<W> {
 impl<W: WordSet + Drop> Iterator for Ascending<W> {
     type Item = u32;
 
-    ghost next_gives = { λ s r t. Takes W.WordSet.width (W.WordSet.word s.rest) r (W.WordSet.word t.rest) };
+    ghost next_gives = { λ s r t. Takes W.width (W.word s.rest) r (W.word t.rest) };
 
-    ghost remaining = { λ s. at_most (W.WordSet.word s.rest) };
+    ghost remaining = { λ s. at_most (W.word s.rest) };
 
     fn next(&mut self) -> Option<u32> {
         let lowest = self.rest.lowest_from(0)?;
