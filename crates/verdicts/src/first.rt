@@ -70,7 +70,7 @@ fn walk<R: NeighbourRule, T: Tally>(
     let mut v = first_hatching(tally, *palette, live)?;
     let mut s = tally.start(v);
     strip[0] = v as u8;
-    // By index: i finds the palette, the words and the byte of the part.
+    // By index: i finds the palette, the words and the byte of the part; over the palettes alone the invariant would have to count them.
     for i in 1..palettes.len() {
         let w = next_hatching(rule, tally, palettes[i], live, i, v, s)?;
         s = tally.step(s, v, w);
