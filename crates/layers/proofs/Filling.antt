@@ -20,7 +20,7 @@ module _ (given : ℕ → ℕ → Type 0) (whole : ℕ) where
     replicate 32 0,
     (
       fill_none given whole rest e,
-      λ s. (λ i. absurd ((holds_zero s).0 i), λ t. absurd ((holds_zero s).0 (subst (In s) (none_there t.0) t.1))),
+      λ s. (λ i. absurd ((holds_zero s).0 i), λ t. absurd ((holds_zero s).0 (subst (In s) (none_there 32 t.0) t.1))),
     ),
   )
 

@@ -1,6 +1,6 @@
 -- Loops that build sets. Assumes nothing.
-use Rattle.std.proofs.Common.{◌≡◌, ℕ, zero, suc, ◌+◌, ◌<◌, ◌⊎◌, List, length, get_or, set, replicate, Some, sym, refl, ◌∙◌, subst, inl, inr, arith}
-use Rattle.std.proofs.lemmas.List.{length-set, get_or-set_same, get_or-set_other, get_or-replicate, get_or_past}
+use Rattle.std.proofs.Common.{◌≡◌, ℕ, ◌+◌, ◌<◌, ◌⊎◌, List, length, get_or, set, replicate, Some, sym, refl, ◌∙◌, subst, inl, inr, arith}
+use Rattle.std.proofs.lemmas.List.{length-set, get_or-set_same, get_or-set_other, get_or-replicate, get_or_past, length-replicate}
 use Rattle.std.proofs.lemmas.Bool.{cases_eq, cases_lt}
 use Rattle.words.specs.Sets.{bit, In, Holds, HoldsEach, Takes}
 use Rattle.words.proofs.Membership.{holds_zero}
@@ -89,13 +89,15 @@ module _ (F : ℕ → ℕ → Type 0) (whole : ℕ) where
       out k t (inl e) = inr (subst (λ (p : ℕ). F p k) e t.1.1.1)
       out k t (inr gone) = inl ((h k).1 (t.0, (t.1.0, (gone, t.1.1.1))))
 
-  -- the member s gives nothing
-  pub gather_skip : (n rest less s all : ℕ) → Takes n rest (Some s) less → ((k : ℕ) → F s k → ⊥)
-      → Gathering F whole rest all → Gathering F whole less all
-  gather_skip n rest less s all taken none = gather_more n rest less s all all taken (λ k. (inl, λ t. elim t [ inl i ↦ i | inr f ↦ absurd (none k f) ]))
-
   pub gather_all : (rest all : ℕ) → ((k : ℕ) → In k rest → ⊥) → Gathering F whole rest all → Holds all (λ k. (p : ℕ) × (In p whole × F p k))
   gather_all rest all done (within, h) k = (λ i. let t = (h k).0 i in (t.0, (t.1.0, t.1.1.1)), λ t. (h k).1 (t.0, (t.1.0, (done t.0, t.1.1))))
+
+-- each member s gives the number f s, which is put into a set of n bits
+pub gather_value : (f : ℕ → ℕ) (whole n rest less s all r m : ℕ) → Takes n rest (Some s) less → f s ≡ m → m < n
+    → Holds r (λ j. In j all ⊎ ((j ≡ m) × (m < n))) → Gathering (λ p k. f p ≡ k) whole rest all → Gathering (λ p k. f p ≡ k) whole less r
+gather_value f whole n rest less s all r m taken is small joined h =
+    gather_more (λ p k. f p ≡ k) whole n rest less s all r taken
+    (joined_one n all r m (λ k. f s ≡ k) joined small (λ k. (λ e. sym e ∙ is, λ e. is ∙ sym e))) h
 
 -- ---- a list of 32 sets that gets one for each member: given v x says that x may be the set of the member v
 
@@ -107,8 +109,8 @@ pub record Filling (given : ℕ → ℕ → Type 0) (whole rest : ℕ) (sets : L
   pub empty : (v : ℕ) → (In v whole → In v rest) → get_or sets v 0 ≡ 0
 
 -- a list with empty sets alone
-pub none_there : (v : ℕ) → get_or (replicate {A = ℕ} 32 0) v 0 ≡ 0
-none_there v = elim (cases_lt v 32) [ inl l ↦ get_or-replicate 32 v 0 0 l | inr l ↦ get_or_past (replicate 32 0) v 0 (omega arith) ]
+pub none_there : (n v : ℕ) → get_or (replicate {A = ℕ} n 0) v 0 ≡ 0
+none_there n v = elim (cases_lt v n) [ inl l ↦ get_or-replicate n v 0 0 l | inr l ↦ get_or_past (replicate n 0) v 0 (rw (length-replicate {A = ℕ} n 0) l) ]
 
 module _ (given : ℕ → ℕ → Type 0) (whole : ℕ) where
   pub fill_none : (rest : ℕ) → rest ≡ whole → Filling given whole rest (replicate 32 0)
@@ -116,7 +118,7 @@ module _ (given : ℕ → ℕ → Type 0) (whole : ℕ) where
     within = λ v i. subst (In v) e i;
     size = refl;
     laid = λ v i gone. absurd (gone (subst (In v) (sym e) i));
-    empty = λ v h. none_there v;
+    empty = λ v h. none_there 32 v;
   }
 
   -- the member s gets the set x

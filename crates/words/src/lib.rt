@@ -5,11 +5,11 @@
 ghost use Rattle.std.specs.Prelude.{◌≡◌, ℕ, ◌<◌, ◌⊎◌, IfSome, IsTrue, ◌↔◌, ◌≢◌, ◌≤◌};
 ghost use Rattle.words.specs.Sets.{In, Holds, Lowest, size};
 
-pub mod united;
+pub mod unions;
 pub mod walk;
 pub mod widths;
 
-pub use united::union_of;
+pub use unions::union_of;
 pub use walk::{Ascending, members};
 
 pub trait WordSet: Copy {
@@ -101,11 +101,7 @@ pub trait WordSet: Copy {
         ensures lowest { Lowest (λ k. In k (word self)) from result }
         ensures inside { IfSome result (λ k. k < width) }
     {
-        let set = self.wide();
-        if from >= 64 {
-            return None;
-        }
-        let above = set >> from;
+        let above = self.wide().checked_shr(from)?;
         if above == 0 {
             return None;
         }

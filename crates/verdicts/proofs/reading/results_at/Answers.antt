@@ -1,6 +1,6 @@
-use Rattle.std.proofs.Common.{◌≡◌, ℕ, ◌<◌, sym, ◌∙◌, subst, arith, rules}
+use Rattle.std.proofs.Common.{◌≡◌, ℕ, ◌<◌, sym, subst, arith, rules}
 use Rattle.words.specs.Sets.{In, Holds}
-use Rattle.words.proofs.Walking.{gather_none, gather_more, gather_all, joined_one}
+use Rattle.words.proofs.Walking.{gather_none, gather_value, gather_all}
 use Rattle.verdicts.specs.Verdicts.{PartHas}
 use Rattle.tallies.specs.Machines.{Machine}
 use Rattle.verdicts.proofs.Telling.{yields_of}
@@ -12,14 +12,10 @@ loop-s-init g c = gather_none _ c.into_iter-s-iterator.result.rest c.into_iter-s
 pub loop-s-preserved : goal.loop-s-preserved
 loop-s-preserved g c =
     let t = c.args.tally.now in
-    let s = c.in-Some.s in
-    let F : ℕ → ℕ → Type 0 = λ s k. (g.T.Tally.machine c.args.tally.now).result s ≡ k in
-    let k : ℕ = c.result.result in
-    let is : (g.T.Tally.machine t).result s ≡ k = search rules in
-    let small : k < 64 = omega (arith, is, g.met.T.Tally.laws.results t s) in
-    let joined = joined_one 64 c.loop-s.results c.with-results.result k (F s) c.with-results.ensures small (λ j. (λ e. sym e ∙ is, λ e. is ∙ sym e)) in
-    gather_more F c.into_iter-s-iterator.result.rest 64 c.loop-s.s-iterator.rest c.next.new.self.rest s c.loop-s.results c.with-results.result
-    c.in-Some.ensures.steps joined c.loop-s.invariant
+    let result : ℕ → ℕ = (g.T.Tally.machine t).result in
+    let is : result c.in-Some.s ≡ c.result.result = search rules in
+    let small : c.result.result < 64 = omega (arith, is, g.met.T.Tally.laws.results t c.in-Some.s) in
+    gather_value result c.into_iter-s-iterator.result.rest 64 _ _ _ _ _ _ c.in-Some.ensures.steps is small c.with-results.ensures c.loop-s.invariant
 
 pub returns : goal.returns
 returns g c =

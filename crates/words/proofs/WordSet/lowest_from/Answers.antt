@@ -1,17 +1,15 @@
 use Rattle.std.proofs.Common.{rules}
-use Rattle.words.proofs.Membership.{lowest_above, none_above, none_past}
+use Rattle.words.proofs.Membership.{lowest_above, none_above}
 use Rattle.words.proofs.WordSet.lowest_from.Goals as goal
 
-pub returns-then-from-ge64-clause-lowest : goal.returns-then-from-ge64-clause-lowest
-returns-then-from-ge64-clause-lowest g c = rw (← c.wide-set.ensures.same) (search (rules, none_past 64))
-
 pub returns-then-above-eq0-clause-lowest : goal.returns-then-above-eq0-clause-lowest
-returns-then-above-eq0-clause-lowest g c = rw (← c.wide-set.ensures.same) (search (rules, none_above))
+returns-then-above-eq0-clause-lowest g c = rw (← c.wide.ensures.same) (search (rules, none_above))
 
 pub returns-clause-lowest : goal.returns-clause-lowest
-returns-clause-lowest g c = rw (← c.wide-set.ensures.same) (search (rules, lowest_above 64))
+returns-clause-lowest g c = rw (← c.wide.ensures.same) (search (rules, lowest_above 64))
 
 pub returns-clause-inside : goal.returns-clause-inside
 returns-clause-inside g c =
-    let low = lowest_above 64 c.wide-set.result c.args.from (search rules) (search rules) in
-    c.wide-set.ensures.inside _ low.1
+    let inside = c.wide.ensures.inside in
+    let low = lowest_above 64 c.wide.result c.args.from (search rules) (search rules) in
+    search (rules, inside, low)

@@ -1,6 +1,6 @@
 use Rattle.std.proofs.Common.{◌≡◌, ℕ, ◌<◌, slice_index_or}
 use Rattle.words.specs.Sets.{In, Holds}
-use Rattle.words.proofs.united.union_of.Given as goal
+use Rattle.words.proofs.unions.union_of.Given as goal
 
 -- what is in a set before the one to come
 abbrev pub invariant-loop-set : goal.invariant-loop-set
