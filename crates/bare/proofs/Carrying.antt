@@ -21,12 +21,6 @@ use Rattle.bare.specs.Settling.{Settles, parts_of}
 use Rattle.bare.proofs.Agreeing.{iff_back, iff_on, Loses, agrees_laid, with, has_with, agrees_with, agrees_still, agrees_fewer, opens_like, marks_more}
 use Rattle.bare.proofs.Striking.{Fewer, SameRows, SomeRow, Struck, holds_less, none_less, none_struck, struck_set, struck_take, fewer_struck, fewer_limited, same_used, some_like}
 
--- before the first lay
-pub agrees_blank : (m : Model) (a : Record) → NothingLaid a → Agrees m blank a
-agrees_blank m a nothing =
-    agrees_laid m a 0 0 0 [] Blank (λ judged. judged) nothing.n nothing.d refl refl
-    (ap (λ (s : Moment). s.results) nothing.current) (ap (λ (s : Moment). s.stand) nothing.current) nothing.marks
-
 -- ---- what becomes of the row's complete rows
 
 module _ (m : Model) (a a' : Record) where
