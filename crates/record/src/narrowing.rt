@@ -1,5 +1,4 @@
 // Hatchings and results taken away.
-ghost use Rattle.std.specs.Prelude.{◌≡◌};
 ghost use Rattle.record.specs.Calls.{Limits, Withdraws};
 ghost use Rattle.record.specs.Refusals.{limit_refusal, withdraw_refusal};
 ghost use Rattle.record.specs.Replies.{Replies};
