@@ -15,6 +15,7 @@ pub struct Neighbours {
 }
 
 // The hatchings of the set that may stand right after v.
+// Several crates have such a loop: one function for all would be public, and no public one here may require a closure to be callable.
 fn row_of<R: NeighbourRule>(rule: &R, used: u32, v: u32) -> u32
     ensures { Holds result (λ w. In w used × (R.pairs rule.now v w ≡ true)) }
 {
