@@ -15,8 +15,8 @@ const LARGEST: [FormulaRule; 7] = [
 
 #[test]
 fn formulas_at_five_and_two(rt: HostRuntime) {
-    let first = [true, false, true, false, false, true, false];
-    let turned = [true, false, true, true, true, true, false];
+    let first: [bool; 7] = [true, false, true, false, false, true, false];
+    let turned: [bool; 7] = [true, false, true, true, true, true, false];
     for (rule, (first, turned)) in LARGEST.iter().zip(first.iter().zip(&turned)) {
         assert_eq!(rt; rule.allows(5, 2), *first);
         assert_eq!(rt; rule.allows(2, 5), *turned);

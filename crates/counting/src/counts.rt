@@ -30,7 +30,7 @@ pub fn counts_of(row: &[u32], r: u32) -> Result<Counts, LineFault>
     if row.len() > 60 {
         return Err(LineFault::TooMany(row.len()));
     }
-    let row = FinishedRow::new(row)?;
+    let row = FinishedRow::try_from(row)?;
     let stretches = |rule| StretchCounter { rule }.stretches_in(row);
     Ok(Counts {
         always: stretches(FormulaRule::Always),

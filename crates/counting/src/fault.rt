@@ -20,7 +20,7 @@ pub enum LineFault {
     // so many parts, which are more than 60
     #[error("there are {0} parts, and 60 are the most")]
     TooMany(usize),
-    // for the line's numbers
+    // there is no memory for the line's numbers
     #[error("there is no memory for it")]
     Memory,
 }

@@ -1,5 +1,5 @@
 // The table of neighbours.
-ghost use Rattle.std.specs.Prelude.{◌≡◌, true, ℕ, slice_index};
+ghost use Rattle.std.specs.Prelude.{◌≡◌, true};
 ghost use Rattle.words.specs.Sets.{In, Holds, HoldsEach};
 ghost use Rattle.neighbours.specs.Pairs.{PairInUse};
 
@@ -15,6 +15,7 @@ pub struct Neighbours {
 }
 
 // The hatchings of the set that may stand right after v.
+// Several crates have such a loop: one function for all would be public, and no public one here may require a closure to be callable.
 fn row_of<R: NeighbourRule>(rule: &R, used: u32, v: u32) -> u32
     ensures { Holds result (λ w. In w used × (R.pairs rule.now v w ≡ true)) }
 {

@@ -1,5 +1,4 @@
 // The marks: a row saved, and gone back to.
-ghost use Rattle.std.specs.Prelude.{◌≡◌};
 ghost use Rattle.record.specs.Calls.{GoesBack, Saves};
 ghost use Rattle.record.specs.Refusals.{back_refusal, mark_refusal};
 ghost use Rattle.record.specs.Replies.{Replies};

@@ -1,5 +1,4 @@
 // Hatchings and results taken away.
-ghost use Rattle.std.specs.Prelude.{◌≡◌};
 ghost use Rattle.record.specs.Calls.{Limits, Withdraws};
 ghost use Rattle.record.specs.Refusals.{limit_refusal, withdraw_refusal};
 ghost use Rattle.record.specs.Replies.{Replies};
@@ -12,6 +11,7 @@ use words::WordSet;
 // The highest result that a row can have.
 const LAST_RESULT: u32 = 63;
 
+// The two end in the same steps: one function for these would take the stand and hand it back with the set, and be longer.
 impl Record {
     // Takes a hatching out of a part's palette, and answers how many are left there.
     pub fn withdraw(&mut self, part: u32, hatching: u32) -> Result<u32, Refusal>

@@ -25,7 +25,7 @@ pub enum FormulaRule {
 
 impl FormulaRule {
     // The formula of a code from 0 to 6, in the order above; r counts in the last two only.
-    // No TryFrom, which has one argument; and no cast gives a code, since an enum with data has no discriminants.
+    // No TryFrom: of a pair of two numbers nobody sees which is the code.
     pub fn from_code(code: u32, r: u32) -> Option<FormulaRule>
         ensures { MatchOption result (6 < code) (λ g. (formula_code g ≡ code) × Carries g r) }
     {
@@ -41,7 +41,7 @@ impl FormulaRule {
         }
     }
 
-    // The formula's code.
+    // The formula's code. No cast gives it, since an enum with data has no discriminants.
     pub fn number(self) -> u32
         ensures { result ≡ formula_code self }
     {

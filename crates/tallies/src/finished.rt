@@ -32,11 +32,13 @@ pub struct FinishedRow<'a> {
     ghost finished: { Finished hatchings.now },
 }
 
-impl<'a> FinishedRow<'a> {
-    // The numbers as a finished row, where they are one.
-    pub fn new(row: &'a [u32]) -> Result<FinishedRow<'a>, RowFault>
-        ensures { MatchResult result (λ finished. finished.hatchings.now ≡ row.now) (Faulty row.now) }
-    {
+// The numbers as a finished row, where they are one.
+impl<'a> TryFrom<&'a [u32]> for FinishedRow<'a> {
+    type Error = RowFault;
+
+    ghost try_from_gives = { λ row r. MatchResult r (λ finished. finished.hatchings.now ≡ row.now) (Faulty row.now) };
+
+    fn try_from(row: &'a [u32]) -> Result<FinishedRow<'a>, RowFault> {
         check_finished(row)?;
         Ok(FinishedRow { hatchings: row })
     }

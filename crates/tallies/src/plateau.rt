@@ -78,6 +78,6 @@ impl PlateauCounter {
     pub fn longest_run(&self, row: &[u32]) -> Result<u32, RowFault>
         ensures { MatchResult result (Measures row.now) (Faulty row.now) }
     {
-        Ok(self.longest_run_in(FinishedRow::new(row)?))
+        Ok(self.longest_run_in(FinishedRow::try_from(row)?))
     }
 }

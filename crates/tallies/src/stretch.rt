@@ -80,6 +80,6 @@ impl<C: NeighbourRule> StretchCounter<C> {
     pub fn stretches(&self, row: &[u32]) -> Result<u32, RowFault>
         ensures { MatchResult result (Stretches (C.pairs self.now.rule) row.now) (Faulty row.now) }
     {
-        Ok(self.stretches_in(FinishedRow::new(row)?))
+        Ok(self.stretches_in(FinishedRow::try_from(row)?))
     }
 }

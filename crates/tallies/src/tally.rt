@@ -29,6 +29,7 @@ pub trait Tally {
 
     // The states that the step from v to w gives from those of the set.
     // A tally that can move a whole set at once writes its own.
+    // Several crates have such a loop: one function for all would be public, and no public one here may require a closure to be callable.
     fn image(&self, set: u64, v: u32, w: u32) -> u64
         ensures { Holds result (Image (machine self.now) set v w) }
     {
