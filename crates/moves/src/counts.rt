@@ -1,5 +1,6 @@
 // Numbers one up, and not above 63.
-// These and the grid's row_down differ in the shift alone; a const parameter for it would be longer than the one expression of each.
+// These and the grid's row_down differ in the shift and in what it would lose; with both as parameters a common function would be
+// longer than the one expression of each.
 ghost use Rattle.moves.specs.Maps.{Image, Preimage, one_up};
 ghost use Rattle.words.specs.Sets.{Holds};
 
