@@ -17,12 +17,11 @@ fn lowest<F: Fn(u32) -> bool>(palette: u32, test: F) -> Option<u32>
     requires { (v : ℕ) → v < 32 → F.pre test v }
     ensures { IsLowest (F.post test) palette result }
 {
-    for v in members(palette) {
-        if test(v) {
-            return Some(v);
-        }
-    }
-    None
+    members(palette).find(
+        |v|
+            requires { F.pre test v.now }
+        { test(*v) },
+    )
 }
 
 // The lowest hatching of the palette that a complete row begins with.
