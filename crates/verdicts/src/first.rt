@@ -63,9 +63,7 @@ fn walk<R: NeighbourRule, T: Tally>(
     requires bytes { length palettes.now ≤ length strip.old }
     ensures { let m = model (R.pairs rule.now) (T.machine tally.now) in ((allowed : ℕ) → Lives m palettes.now allowed live.now → Fills m palettes.now allowed strip.old strip.new result) }
 {
-    let [palette, ..] = palettes else {
-        return None;
-    };
+    let palette = palettes.first()?;
     let mut v = first_hatching(tally, *palette, live)?;
     let mut s = tally.start(v);
     strip[0] = v as u8;
