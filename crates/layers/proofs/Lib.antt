@@ -1,3 +1,4 @@
+pub mod Chunks
 mod Filling
 pub mod Passing
 pub mod Rows
