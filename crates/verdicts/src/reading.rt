@@ -20,10 +20,10 @@ fn words_at(live: &[u64], part: usize) -> &[u64]
     ensures few { length result.now ≤ 32 }
     ensures words { (v s : ℕ) → (v < length result.now) × In s (slice_index result.now v) ↔ WordHas live.now part v s }
 {
-    if part >= live.len() / 32 {
-        return &[];
+    match live.as_chunks::<32>().0.get(part) {
+        Some(words) => words,
+        None => &[],
     }
-    &live[32 * part..32 * part + 32]
 }
 
 // The hatchings of a part that some complete row uses.
