@@ -1,6 +1,6 @@
 // The backward pass: of the reachable states of each part, those from which the row can be completed.
 // Before part i, the words of the parts from i + 1 on hold their live states.
-ghost use Rattle.std.specs.Prelude.{◌*◌, ◌<◌, ◌≤◌, length, slice_index};
+ghost use Rattle.std.specs.Prelude.{◌*◌, ◌<◌, length, slice_index};
 ghost use Rattle.words.specs.Sets.{In, Holds, HoldsEach};
 ghost use Rattle.layers.specs.Layers.{Departs};
 ghost use Rattle.layers.specs.Passes.{Retains};

@@ -1,6 +1,6 @@
 // The forward pass: the states in which each part can be reached.
 // After part i, the words of the parts up to i hold their reachable states.
-ghost use Rattle.std.specs.Prelude.{◌≡◌, ◌*◌, ◌≤◌, length, slice_index};
+ghost use Rattle.std.specs.Prelude.{◌≡◌, ◌*◌, length, slice_index};
 ghost use Rattle.words.specs.Sets.{In, Holds, HoldsEach};
 ghost use Rattle.layers.specs.Layers.{Arrives};
 ghost use Rattle.layers.specs.Passes.{Reaches};

@@ -1,5 +1,5 @@
 // The live states of a row.
-ghost use Rattle.std.specs.Prelude.{◌≡◌, ◌*◌, ◌<◌, ◌≤◌, length, MatchResult};
+ghost use Rattle.std.specs.Prelude.{◌≡◌, ◌*◌, ◌<◌, length, MatchResult};
 ghost use Rattle.layers.specs.declared.shortage.Shortage.TheVariants.{Scratch};
 ghost use Rattle.layers.specs.Scratch.{HasRoom, Lives, SameFrom};
 ghost use Rattle.layers.specs.Rows.{model};

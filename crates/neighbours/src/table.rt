@@ -1,5 +1,5 @@
 // The table of neighbours.
-ghost use Rattle.std.specs.Prelude.{◌≡◌, true, ℕ, slice_index};
+ghost use Rattle.std.specs.Prelude.{◌≡◌, true};
 ghost use Rattle.words.specs.Sets.{In, Holds, HoldsEach};
 ghost use Rattle.neighbours.specs.Pairs.{PairInUse};
 

@@ -1,5 +1,5 @@
 // Settle: what no complete row uses or has is struck from the row.
-ghost use Rattle.std.specs.Prelude.{◌≡◌, ℕ, ◌*◌, ◌<◌, ◌≤◌, Bool, false, List, length, Ok, Err};
+ghost use Rattle.std.specs.Prelude.{◌≡◌, ℕ, ◌*◌, ◌<◌, ◌≤◌, Bool, false, length};
 ghost use Rattle.layers.specs.Rows.{model, Possible};
 ghost use Rattle.layers.specs.Scratch.{Lives, SameFrom};
 ghost use Rattle.record.specs.declared.stand.Stand.TheVariants.{Settled, Dead};

@@ -2,7 +2,6 @@
 // After part i, the strip's first i + 1 bytes begin that row, and s is its tally there.
 ghost use Rattle.std.specs.Prelude.{◌≡◌, ℕ, ◌+◌, ◌*◌, ◌<◌, ◌≤◌, true, length, MatchResult, slice_index};
 ghost use Rattle.words.specs.Sets.{In, Lowest};
-ghost use Rattle.layers.specs.declared.shortage.Shortage.{Shortage};
 ghost use Rattle.layers.specs.Scratch.{HasRoom, Lives, SameFrom, Shortens};
 ghost use Rattle.verdicts.specs.Verdicts.{Fills, IsLowest};
 ghost use Rattle.layers.specs.Rows.{model};
