@@ -1,4 +1,4 @@
 pub mod Chunks
-mod Filling
+mod Making
 pub mod Passing
 pub mod Rows
