@@ -20,6 +20,7 @@ fn departures<T: Tally>(tally: &T, states: u64, layer: &[u64; 32], to: u32, v: u
 }
 
 // One layer backward: of the states of one part, those that can go on into the next.
+// Tally and neighbours side by side, as in `advance`.
 fn retain<T: Tally>(
     tally: &T,
     neighbours: &Neighbours,
@@ -37,6 +38,7 @@ fn retain<T: Tally>(
 }
 
 // The states of the tally whose result is allowed.
+// A loop that keeps what passes: one function for this and `used_at` of verdicts would be public, and require that its closure can be called.
 fn ending_states<T: Tally>(tally: &T, allowed: u64) -> u64
     ensures { Holds result (λ s. (s < T.STATES) × In ((T.machine tally.now).result s) allowed) }
 {
