@@ -1,3 +1,4 @@
-mod Filling
+pub mod Chunks
+mod Making
 pub mod Passing
 pub mod Rows

@@ -1,6 +1,6 @@
 // The backward pass: of the reachable states of each part, those from which the row can be completed.
 // Before part i, the words of the parts from i + 1 on hold their live states.
-ghost use Rattle.std.specs.Prelude.{◌*◌, ◌<◌, ◌≤◌, length, slice_index};
+ghost use Rattle.std.specs.Prelude.{◌*◌, ◌<◌, length, slice_index};
 ghost use Rattle.words.specs.Sets.{In, Holds, HoldsEach};
 ghost use Rattle.layers.specs.Layers.{Departs};
 ghost use Rattle.layers.specs.Passes.{Retains};
@@ -20,6 +20,7 @@ fn departures<T: Tally>(tally: &T, states: u64, layer: &[u64; 32], to: u32, v: u
 }
 
 // One layer backward: of the states of one part, those that can go on into the next.
+// Tally and neighbours side by side, as in `advance`.
 fn retain<T: Tally>(
     tally: &T,
     neighbours: &Neighbours,
@@ -37,6 +38,7 @@ fn retain<T: Tally>(
 }
 
 // The states of the tally whose result is allowed.
+// A loop that keeps what passes: one function for this and `used_at` of verdicts would be public, and require that its closure can be called.
 fn ending_states<T: Tally>(tally: &T, allowed: u64) -> u64
     ensures { Holds result (λ s. (s < T.STATES) × In ((T.machine tally.now).result s) allowed) }
 {

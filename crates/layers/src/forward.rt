@@ -1,6 +1,6 @@
 // The forward pass: the states in which each part can be reached.
 // After part i, the words of the parts up to i hold their reachable states.
-ghost use Rattle.std.specs.Prelude.{◌≡◌, ◌*◌, ◌≤◌, length, slice_index};
+ghost use Rattle.std.specs.Prelude.{◌≡◌, ◌*◌, length, slice_index};
 ghost use Rattle.words.specs.Sets.{In, Holds, HoldsEach};
 ghost use Rattle.layers.specs.Layers.{Arrives};
 ghost use Rattle.layers.specs.Passes.{Reaches};
@@ -20,6 +20,7 @@ fn arrivals<T: Tally>(tally: &T, layer: &[u64; 32], from: u32, w: u32) -> u64
 }
 
 // One layer forward: from the states of one part to those of the next.
+// Tally and neighbours side by side: a struct of both would be made once and taken apart in each function, as the loops need one of them.
 fn advance<T: Tally>(
     tally: &T,
     neighbours: &Neighbours,
@@ -60,7 +61,7 @@ pub(crate) fn forward<T: Tally>(
     store(scratch, 0, layer);
     // By index, since i also says where the words are; over windows the invariant would have to carry that iterator's state.
     for i in 1..palettes.len() {
-        // A name of its own: a call's result that is laid straight in `layer` is not covered.
+        // A name of its own: the check does not cover a call's result that is laid straight in `layer`.
         let next = advance(tally, neighbours, layer, palettes[i - 1], palettes[i]);
         store(scratch, i, next);
         layer = next;

@@ -1,5 +1,5 @@
 // The live states of a row.
-ghost use Rattle.std.specs.Prelude.{◌≡◌, ◌*◌, ◌<◌, ◌≤◌, length, MatchResult};
+ghost use Rattle.std.specs.Prelude.{◌≡◌, ◌*◌, ◌<◌, length, MatchResult};
 ghost use Rattle.layers.specs.declared.shortage.Shortage.TheVariants.{Scratch};
 ghost use Rattle.layers.specs.Scratch.{HasRoom, Lives, SameFrom};
 ghost use Rattle.layers.specs.Rows.{model};
@@ -31,6 +31,8 @@ pub fn check_scratch(palettes: &[u32], scratch: &[u64]) -> Result<(), Shortage>
 }
 
 // The two passes.
+// A definition for the model of a problem would take the same four things: the members of the two bounds, and the two values.
+// SameFrom speaks of before and after, so no invariant of a type can say it; it is a name already.
 fn pass<R: NeighbourRule, T: Tally>(problem: &Problem<R, T>, scratch: &mut [u64])
     requires { HasRoom (length problem.now.palettes.now) scratch.old }
     ensures live { Lives (model (R.pairs problem.now.rule.now) (T.machine problem.now.tally.now)) problem.now.palettes.now problem.now.allowed scratch.new }

@@ -6,11 +6,10 @@ pub(crate) fn load(scratch: &[u64], i: usize) -> [u64; 32]
     requires { HasRoom (i + 1) scratch.now }
     ensures { IsLoaded i scratch.now result }
 {
-    let mut layer = [0; 32];
-    layer.copy_from_slice(&scratch[32 * i..32 * i + 32]);
-    layer
+    scratch.as_chunks::<32>().0[i]
 }
 
+// By copy_from_slice: the contract of as_chunks_mut says nothing of what the slice ends as.
 pub(crate) fn store(scratch: &mut [u64], i: usize, layer: [u64; 32])
     requires { HasRoom (i + 1) scratch.old }
     ensures { Stores i layer scratch.old scratch.new }

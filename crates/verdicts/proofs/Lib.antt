@@ -1,2 +1,3 @@
+mod Seeking
 pub mod Telling
 pub mod Walks

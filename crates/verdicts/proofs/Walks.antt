@@ -50,10 +50,6 @@ module _ (m : Model) (ps : List ℕ) (allowed : ℕ) where
       → (w : ℕ) × ((m.pairs v w ≡ true) × Live m ps allowed (suc i) w (m.machine.step s v w))
   live_goes_on i v s inside (xs, (whole, at, tally)) = (get_or xs (suc i) 0, live_next xs i v s whole (omega arith) at (rw add-one at tally))
 
-  -- a hatching is live at the first part in no state but the one that it starts
-  pub live_start_is : (v s : ℕ) → Live m ps allowed 0 v s → s ≡ m.machine.start v
-  live_start_is v s (xs, (whole, at, tally)) = sym tally ∙ state_one m.machine xs whole.some ∙ ap m.machine.start at
-
   -- the least live hatching begins the first complete row
   pub begun_first : (strip : List ℕ) (v : ℕ) → length ps ≤ length strip → Live m ps allowed 0 v (m.machine.start v)
       → ((u : ℕ) → u < v → Live m ps allowed 0 u (m.machine.start u) → ⊥) → Begun m ps allowed (set strip 0 v) 0 v (m.machine.start v)

@@ -2,7 +2,6 @@
 // After part i, the strip's first i + 1 bytes begin that row, and s is its tally there.
 ghost use Rattle.std.specs.Prelude.{◌≡◌, ℕ, ◌+◌, ◌*◌, ◌<◌, ◌≤◌, true, length, MatchResult, slice_index};
 ghost use Rattle.words.specs.Sets.{In, Lowest};
-ghost use Rattle.layers.specs.declared.shortage.Shortage.{Shortage};
 ghost use Rattle.layers.specs.Scratch.{HasRoom, Lives, SameFrom, Shortens};
 ghost use Rattle.verdicts.specs.Verdicts.{Fills, IsLowest};
 ghost use Rattle.layers.specs.Rows.{model};
@@ -17,12 +16,11 @@ fn lowest<F: Fn(u32) -> bool>(palette: u32, test: F) -> Option<u32>
     requires { (v : ℕ) → v < 32 → F.pre test v }
     ensures { IsLowest (F.post test) palette result }
 {
-    for v in members(palette) {
-        if test(v) {
-            return Some(v);
-        }
-    }
-    None
+    members(palette).find(
+        |v|
+            requires { F.pre test v.now }
+        { test(*v) },
+    )
 }
 
 // The lowest hatching of the palette that a complete row begins with.
@@ -64,9 +62,7 @@ fn walk<R: NeighbourRule, T: Tally>(
     requires bytes { length palettes.now ≤ length strip.old }
     ensures { let m = model (R.pairs rule.now) (T.machine tally.now) in ((allowed : ℕ) → Lives m palettes.now allowed live.now → Fills m palettes.now allowed strip.old strip.new result) }
 {
-    let [palette, ..] = palettes else {
-        return None;
-    };
+    let palette = palettes.first()?;
     let mut v = first_hatching(tally, *palette, live)?;
     let mut s = tally.start(v);
     strip[0] = v as u8;

@@ -20,13 +20,14 @@ fn words_at(live: &[u64], part: usize) -> &[u64]
     ensures few { length result.now ≤ 32 }
     ensures words { (v s : ℕ) → (v < length result.now) × In s (slice_index result.now v) ↔ WordHas live.now part v s }
 {
-    if part >= live.len() / 32 {
-        return &[];
+    match live.as_chunks::<32>().0.get(part) {
+        Some(words) => words,
+        None => &[],
     }
-    &live[32 * part..32 * part + 32]
 }
 
 // The hatchings of a part that some complete row uses.
+// A loop that keeps what passes: one function for this and `ending_states` would be public, and require that its closure can be called.
 pub fn used_at(live: &[u64], part: usize) -> u32
     ensures words { Holds result (λ v. (s : ℕ) × WordHas live.now part v s) }
     ensures uses { WhereLive live.now (λ m palettes allowed. part < length palettes → Holds result (Uses m palettes allowed part)) }
@@ -48,6 +49,7 @@ fn states_at(live: &[u64], part: usize) -> u64
 }
 
 // The results that some complete row has: those of the states of its last part.
+// A loop that collects what each state gives: one function for such loops would be public too, with the same requirement.
 pub fn results_at<T: Tally>(tally: &T, live: &[u64], part: usize) -> u64
     ensures words { Holds result (λ k. (s : ℕ) × (PartHas live.now part s × ((T.machine tally.now).result s ≡ k))) }
     ensures yields { WhereLive live.now (λ m palettes allowed. (m.machine ≡ T.machine tally.now) → suc part ≡ length palettes → Holds result (Yields m palettes allowed)) }

@@ -1,5 +1,5 @@
 use Rattle.std.proofs.Common.{rules}
-use Rattle.layers.proofs.Filling.{holds_laid}
+use Rattle.layers.proofs.Making.{holds_laid}
 use Rattle.layers.proofs.backward.last_layer.Goals as goal
 
 pub returns : goal.returns

@@ -1,5 +1,5 @@
 use Rattle.std.proofs.Common.{rules}
-use Rattle.layers.proofs.Filling.{holds_united}
+use Rattle.layers.proofs.Making.{holds_united}
 use Rattle.layers.proofs.forward.arrivals.Goals as goal
 
 pub returns : goal.returns

@@ -1,6 +1,6 @@
 use Rattle.std.proofs.Common.{rules}
 use Rattle.words.proofs.Bits.{bit_zero}
-use Rattle.layers.proofs.Filling.{holds_laid}
+use Rattle.layers.proofs.Making.{holds_laid}
 use Rattle.layers.proofs.forward.first_layer.Goals as goal
 
 pub returns : goal.returns

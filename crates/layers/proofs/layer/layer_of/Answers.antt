@@ -1,6 +1,6 @@
 use Rattle.std.proofs.Common.{rules}
 use Rattle.words.proofs.Walking.{fill_none, fill_more}
-use Rattle.layers.proofs.Filling.{fill_all}
+use Rattle.layers.proofs.Making.{fill_all}
 use Rattle.layers.proofs.layer.layer_of.Goals as goal
 
 pub loop-v-init : goal.loop-v-init

@@ -1,5 +1,5 @@
 use Rattle.std.proofs.Common.{rules}
-use Rattle.layers.proofs.Filling.{unite_none, unite_more, unite_all}
+use Rattle.layers.proofs.Making.{unite_none, unite_more, unite_all}
 use Rattle.layers.proofs.layer.united.Goals as goal
 
 pub loop-v-init : goal.loop-v-init

@@ -1,4 +1,4 @@
-use Rattle.layers.proofs.Filling.{Uniting}
+use Rattle.layers.proofs.Making.{Uniting}
 use Rattle.layers.proofs.layer.united.Given as goal
 
 abbrev pub invariant-loop-v : goal.invariant-loop-v

@@ -12,15 +12,17 @@ returns-in_err-v g c allowed lives =
     let m : Model = model (g.R.NeighbourRule.pairs c.args.rule.now) (g.T.Tally.machine c.args.tally.now) in
     let ps = c.args.palettes.now in
     let strip = c.args.strip.now in
+    let is_first : c.in_ok-palette.palette.now ≡ get_or c.args.palettes.now 0 0 = search rules in
     let some : 0 < length ps = search rules in
-    let none : c.from_residual.result ≡ None = search rules in
+    let none : c.from_residual-in_err-v.result ≡ None = search rules in
     subst (Fills m ps allowed strip strip) (sym none)
-    (walk_none m ps allowed c.args.live.now (palettes_of ps (λ j. (c.type_inv.palettes j).fits)) lives some c.in_err-v.ensures, refl)
+    (walk_none m ps allowed c.args.live.now (palettes_of ps (λ j. (c.type_inv.palettes j).fits)) lives some (rw is_first at c.in_err-v.ensures), refl)
 
 pub overflow_cast-strip : goal.overflow_cast-strip
 overflow_cast-strip g c =
+    let is_first : c.in_ok-palette.palette.now ≡ get_or c.args.palettes.now 0 0 = search rules in
     let small : c.in_ok-v.v < 32 =
-    in_below 32 (get_or c.args.palettes.now 0 0) c.in_ok-v.v (c.type_inv.palettes 0).fits c.in_ok-v.ensures.1.0 in
+    in_below 32 (get_or c.args.palettes.now 0 0) c.in_ok-v.v (c.type_inv.palettes 0).fits (rw is_first at c.in_ok-v.ensures.1.0) in
     search rules
 
 pub loop-i-init : goal.loop-i-init
@@ -30,10 +32,11 @@ loop-i-init g c = (
       let ps = c.args.palettes.now in
       let strip = c.args.strip.now in
       let v = c.in_ok-v.v in
+      let is_first : c.in_ok-palette.palette.now ≡ get_or c.args.palettes.now 0 0 = search rules in
       let some : 0 < length ps = search rules in
       let is : m.machine.start v ≡ c.start-s.result = search rules in
       subst (Begun m ps allowed (set strip 0 v) 0 v) is
-      (walk_first m ps allowed c.args.live.now (palettes_of ps (λ j. (c.type_inv.palettes j).fits)) lives strip v c.requires.bytes some c.in_ok-v.ensures),
+      (walk_first m ps allowed c.args.live.now (palettes_of ps (λ j. (c.type_inv.palettes j).fits)) lives strip v c.requires.bytes some (rw is_first at c.in_ok-v.ensures)),
   λ k h. refl,
 )
 

@@ -1,4 +1,4 @@
--- The two loops over the members of a set, and what they make where what is given for each member is known. Assumes nothing.
+-- What the two loops of layer.rt make, also where what is given for each member is known. Assumes nothing.
 use Rattle.std.proofs.Common.{◌≡◌, ℕ, ◌⊎◌, List, get_or, set, replicate, Some, sym, subst, inl, inr, arith}
 use Rattle.std.proofs.lemmas.List.{get_or-set_same, get_or-set_other}
 use Rattle.std.proofs.lemmas.Bool.{cases_eq}
