@@ -156,9 +156,3 @@ pub fill_holds : (F : ℕ → ℕ → Type 0) (whole rest : ℕ) (sets : List �
     → Filling (λ v x. Holds x (F v)) whole rest sets → HoldsEach sets (λ v k. In v whole × F v k)
 fill_holds F whole rest sets done h =
     each_holds whole sets F (λ v i. h.laid v i (done v)) (λ v no. h.empty v (λ i. absurd (no i)))
-
--- ---- a loop that looks for a member
-
--- what the loop keeps true: Q is true of each member that it has left behind
-abbrev pub Passing : (ℕ → Type 0) → ℕ → ℕ → Type 0
-Passing Q whole rest = Within rest whole × ((p : ℕ) → In p whole → (In p rest → ⊥) → Q p)
