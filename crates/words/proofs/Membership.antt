@@ -1,10 +1,10 @@
 -- What each operation of a set does to its members, at a word of n bits. Assumes nothing.
-use Rattle.std.proofs.Common.{◌≡◌, ℕ, zero, suc, ◌+◌, ◌-◌, ◌*◌, ◌/◌, ◌%◌, ◌^◌, ◌<◌, ◌≤◌, min, max, eqb, ltb, ◌⊎◌, Decides, sym, refl, ap, ◌∙◌, subst, inl, inr, pow-suc, mod-lt, arith}
+use Rattle.std.proofs.Common.{◌≡◌, ℕ, zero, suc, ◌+◌, ◌-◌, ◌*◌, ◌/◌, ◌%◌, ◌^◌, ◌<◌, ◌≤◌, min, max, eqb, ◌⊎◌, Decides, sym, refl, ap, ◌∙◌, subst, inl, inr, pow-suc, mod-lt, arith}
 use lib.Arith.{bin_ind}
 use lib.Bits.{bit_and, bit_or, and_mask}
 use lib.Count.{count_trailing_zeros, under}
 use Rattle.std.proofs.lemmas.Nat.{one_shl, pow_below, pow_pos, shr_le}
-use Rattle.std.proofs.lemmas.Bool.{eqb-true, eq-eqb, ltb-true, lt-ltb, cases_eq}
+use Rattle.std.proofs.lemmas.Bool.{eqb-true, eq-eqb, cases_eq}
 use Rattle.words.specs.Sets.{bit, In, Holds}
 use Rattle.words.proofs.Bits.{bit_lt, bit_mod, bit_zero, bit_low, bit_shr, bit_half, bit_bit_or, bit_bit_and, shown_bit, only, only_same, only_other, bit_shl, bit_not, in_below, no_bits}
 
@@ -50,10 +50,6 @@ put_in n w m r k small below cut h j = (
 pub decides_member : (w k : ℕ) → Decides (eqb (bit_and (w / 2 ^ k) 1) 1) (In k w)
 decides_member w k =
     (λ t. sym (shown_bit w k) ∙ eqb-true (bit_and (w / 2 ^ k) 1) 1 t, λ i. eq-eqb (bit_and (w / 2 ^ k) 1) 1 (shown_bit w k ∙ i))
-
--- a test that k is below the width, for a k that is not
-pub decides_past : (n w k : ℕ) → w < 2 ^ n → n ≤ k → Decides (ltb k n) (In k w)
-decides_past n w k fits past = (λ t. absurd (omega (arith, ltb-true k n t)), λ i. lt-ltb k n (in_below n w k fits i))
 
 pub holds_union : (a b : ℕ) → Holds (bit_or a b) (λ k. In k a ⊎ In k b)
 holds_union a b k = (into, out)
@@ -103,10 +99,6 @@ module _ (n w k : ℕ) (small : k < n) where
       out : In j w × (j ≡ k → ⊥) → In j (bit_and w (2 ^ n - 1 - (1 * 2 ^ k) % 2 ^ n))
       out (member, ne) = omega (arith, is (in_below n w j fits member), only_other k j ne)
 
--- a number past the width is not taken out
-pub holds_without_past : (n w k : ℕ) → w < 2 ^ n → n ≤ k → Holds w (λ j. In j w × (j ≡ k → ⊥))
-holds_without_past n w k fits past j = (λ i. (i, λ e. omega (arith, in_below n w j fits i)), λ t. t.0)
-
 -- the trailing zeros are the lowest member
 pub lowest_in : (n w : ℕ) → 0 < w → w < 2 ^ n → (In (count_trailing_zeros n w) w) × ((j : ℕ) → j < count_trailing_zeros n w → In j w → ⊥)
 unfolding count_trailing_zeros
@@ -152,9 +144,6 @@ none_above w from e k l i =
     let at : from + (k - from) ≡ k = omega arith in
     let shown : bit (w / 2 ^ from) (k - from) ≡ 1 = bit_shr w from (k - from) ∙ ap (bit w) at ∙ i in
     omega (arith, shown, ap (λ (x : ℕ). bit x (k - from)) e, bit_zero (k - from))
-
-pub none_past : (n w from : ℕ) → w < 2 ^ n → n ≤ from → (k : ℕ) → from ≤ k → In k w → ⊥
-none_past n w from fits past k l i = omega (arith, in_below n w k fits i)
 
 pub holds_intersection : (a b : ℕ) → Holds (bit_and a b) (λ k. In k a × In k b)
 holds_intersection a b k = (
