@@ -12,9 +12,6 @@ abbrev pub Uniting : (ℕ → ℕ → Type 0) → ℕ → ℕ → ℕ → Type 0
 Uniting given whole rest all = (layer : List ℕ) × (Filling given whole rest layer × Holds all (λ s. (v : ℕ) × In s (get_or layer v 0)))
 
 module _ (given : ℕ → ℕ → Type 0) (whole : ℕ) where
-  pub fill_all : (rest : ℕ) (layer : List ℕ) → ((v : ℕ) → In v rest → ⊥) → Filling given whole rest layer → IsLaid given whole layer
-  fill_all rest layer done h = record { size = h.size; each = λ v i. h.laid v i (done v); others = λ v no. h.empty v (λ i. absurd (no i)) }
-
   pub unite_none : (rest : ℕ) → rest ≡ whole → Uniting given whole rest 0
   unite_none rest e = (
     replicate 32 0,
@@ -48,9 +45,6 @@ module _ (given : ℕ → ℕ → Type 0) (whole : ℕ) where
         | inl e ↦ inr (subst (In s) here (subst (λ (q : ℕ). In s (get_or (set layer m x) q 0)) e i))
         | inr ne ↦ inl ((holds s).1 (v, subst (In s) (get_or-set_other layer m v x 0 ne) i))
       ]
-
-  pub unite_all : (rest all : ℕ) → ((v : ℕ) → In v rest → ⊥) → Uniting given whole rest all → IsUnited given whole all
-  unite_all rest all done (layer, (h, holds)) = (layer, (fill_all rest layer done h, holds))
 
   -- ---- where P says which states are given
 

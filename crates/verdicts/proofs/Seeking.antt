@@ -1,7 +1,7 @@
 -- The members of a set, asked one after the other until one passes. Assumes nothing.
-use Rattle.std.proofs.Common.{Option, Some, None, true, false, ◌≡◌, ℕ, ◌<◌, Bool, List, [], ◌∷◌, Bor, IfSome, sym, subst, inl, inr}
+use Rattle.std.proofs.Common.{Option, Some, None, true, false, ◌≡◌, ℕ, Bool, List, [], ◌∷◌, Bor, IfSome, sym, subst, inl, inr}
 use Rattle.std.proofs.lemmas.Bool.{cases_eq}
-use Rattle.std.specs.Iterator.{CallableAtEachTurn, FindsItem, YieldsThen}
+use Rattle.std.specs.Iterator.{FindsItem, YieldsThen}
 use Rattle.std.specs.List.{FoldsTo}
 use Rattle.std.specs.Fn.{CalledAt, Mut}
 use Rattle.words.specs.Sets.{In, Takes}
@@ -30,17 +30,6 @@ module _ {S : Type 0} (n : ℕ) (word : S → ℕ) where
   -- a call takes the lowest member
   abbrev Steps : S → Option ℕ → S → Type 0
   Steps s r t = Takes n (word s) r (word t)
-
-  -- f may be called at each member, where it may be called at the numbers below n and calls leave it as it was
-  pub callable_below : {P : Type 0} {R : P → ℕ → P → Type 0} {Q : P → ℕ → Type 0} {s : S} {p : P}
-      → ((x : ℕ) (q : P) → R p x q → q ≡ p) → ((x : ℕ) → x < n → Q p x) → CallableAtEachTurn Steps R Q s p
-  callable_below {P} {R} {Q} {s} {p} stays may = record {
-    at = λ xs t q x u yields folds step. subst (λ k. Q k x) (sym (stayed xs q folds)) (may x step.0);
-  }
-    where
-      stayed : (xs : List ℕ) (q : P) → FoldsTo R p xs q → q ≡ p
-      stayed [] q e = sym e
-      stayed (x ∷ xs) q (k, called, folds) = stayed xs q (subst (λ j. FoldsTo R j xs q) (stays x k called) folds)
 
   module _ {F : Type 0} {g : Mut F (Bor ℕ × Unit {0}) Bool} (f : F) (u : S) (r : Option ℕ) (Says : ℕ → Bool → Type 0)
       (yes : (x : ℕ) (q : F) → CalledAt g f x true q → Says x true) (fails : (x : ℕ) (q : F) → CalledAt g f x false q → (q ≡ f) × Says x false) where

@@ -1,28 +1,17 @@
 -- What the live states of a row tell of its complete rows. Assumes nothing.
-use Rattle.std.proofs.Common.{Option, Some, None, true, false, ◌≡◌, ℕ, suc, ◌+◌, ◌^◌, ◌<◌, Bool, List, length, get_or, take, Decides, sym, refl, ap, ◌∙◌, subst, arith}
-use Rattle.std.proofs.lemmas.Bool.{false≢true}
+use Rattle.std.proofs.Common.{◌≡◌, ℕ, suc, ◌+◌, ◌^◌, ◌<◌, Bool, List, length, get_or, take, Decides, sym, refl, ap, ◌∙◌, subst, arith}
 use Rattle.std.proofs.lemmas.List.{take_all}
-use Rattle.words.specs.Sets.{In, Holds, Lowest}
+use Rattle.words.specs.Sets.{In, Holds}
 use Rattle.words.proofs.Bits.{in_below}
 use Rattle.words.proofs.Walking.{holds_like}
 use Rattle.tallies.specs.Machines.{state}
 use Rattle.layers.specs.Scratch.{Lives}
-use Rattle.verdicts.specs.Verdicts.{IsLowest, Palettes, PartHas, WordHas}
+use Rattle.verdicts.specs.Verdicts.{Palettes, PartHas, WordHas}
 use Rattle.layers.specs.Rows.{Model, Complete, Live, Possible, Uses, Yields}
 
 -- words of 32 have no number above 31
 pub palettes_of : (ps : List ℕ) → ((i : ℕ) → get_or ps i 0 < 2 ^ 32) → Palettes ps
 palettes_of ps fit i v = in_below 32 (get_or ps i 0) v (fit i)
-
--- the lowest member for which a test says true, where it says true exactly of those of which P is true
-pub lowest_of : (Says : ℕ → Bool → Type 0) (set : ℕ) (P : ℕ → Type 0) (o : Option ℕ) → IsLowest Says set o
-    → ((v : ℕ) (b : Bool) → In v set → Says v b → Decides b (P v)) → Lowest (λ v. In v set × P v) 0 o
-lowest_of Says set P (Some v) low decides = (
-  omega arith,
-  (low.found.0, (decides v true low.found.0 low.found.1).0 refl),
-  λ u from less t. false≢true ((decides u false t.0 (low.passed u less t.0)).1 t.1),
-)
-lowest_of Says set P None low decides = λ u from t. false≢true ((decides u false t.0 (low.none u t.0)).1 t.1)
 
 module _ (m : Model) (ps : List ℕ) (allowed : ℕ) (words : List ℕ) (small : Palettes ps) (lives : Lives m ps allowed words) where
   -- a word has a state exactly where it is live

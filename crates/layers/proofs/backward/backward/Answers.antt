@@ -46,11 +46,3 @@ loop-i-preserved g c = record {
       );
   rest = λ q h. c.store-in-loop-i.ensures.above q (omega arith) ∙ c.loop-i.invariant.rest q h;
 }
-
-pub returns : goal.returns
-returns g c = record {
-  through = λ p table reached i h. (c.loop-i.invariant.through p table reached).2 i (omega arith) h;
-  rest = λ k h.
-      let some : 0 < length c.args.palettes.now = search rules in
-      c.loop-i.invariant.rest k h ∙ c.store.ensures.above k (omega arith);
-}

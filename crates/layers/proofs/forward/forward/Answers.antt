@@ -1,21 +1,9 @@
-use Rattle.std.proofs.Common.{◌≡◌, ℕ, ◌+◌, ◌-◌, refl, ◌∙◌, subst, arith, rules}
+use Rattle.std.proofs.Common.{◌≡◌, ℕ, ◌+◌, ◌-◌, ◌∙◌, subst, arith}
 use Rattle.words.specs.Sets.{HoldsEach}
 use Rattle.layers.specs.Passes.{Reachable}
 use Rattle.layers.specs.Rows.{Model, model}
 use Rattle.layers.proofs.Passing.{stored, reach_more}
 use Rattle.layers.proofs.forward.forward.Goals as goal
-
-pub loop-i-init : goal.loop-i-init
-loop-i-init g c = record {
-  reached = λ p table.
-      let m : Model = model p (g.T.Tally.machine c.args.tally.now) in
-      let ps = c.args.palettes.now in
-      let made : HoldsEach c.first_layer-layer.result (Reachable m ps 0) = search rules in (
-        made,
-        λ j l. stored c.store.ensures (Reachable m ps) made j (λ other. absurd (omega arith)),
-      );
-  rest = λ k h. refl;
-}
 
 pub loop-i-preserved : goal.loop-i-preserved
 loop-i-preserved g c = record {

@@ -1,12 +1,9 @@
 use Rattle.std.proofs.Common.{rules}
-use Rattle.words.proofs.Walking.{fill_none, fill_more, fill_holds}
+use Rattle.words.proofs.Walking.{fill_none, fill_holds}
 use Rattle.neighbours.proofs.table.table_of.Goals as goal
 
 pub loop-v-init : goal.loop-v-init
 loop-v-init g c = fill_none _ c.args.used _ (search rules)
-
-pub loop-v-preserved : goal.loop-v-preserved
-loop-v-preserved g c = search (rules, fill_more)
 
 pub returns : goal.returns
 returns g c = fill_holds _ _ c.loop-v.v-iterator.rest _ c.in-None.ensures.steps c.loop-v.invariant

@@ -22,8 +22,8 @@ loop-v-preserved c =
           c.loop-v.invariant)
     ]
 
-pub returns : goal.returns
-returns c =
+pub returns-clause-uses : goal.returns-clause-uses
+returns-clause-uses c =
     let live = c.args.live.now in
     let used : Holds c.loop-v.used (λ v. (s : ℕ) × WordHas live c.args.part v s) = search rules in
-    record { words = used; uses = λ m ps allowed small lives inside. uses_of m ps allowed live small lives c.args.part c.loop-v.used inside used }
+    λ m ps allowed small lives inside. uses_of m ps allowed live small lives c.args.part c.loop-v.used inside used
