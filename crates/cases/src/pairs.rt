@@ -15,9 +15,17 @@ const LARGEST: [FormulaRule; 7] = [
 
 #[test]
 fn formulas_at_five_and_two(rt: HostRuntime) {
-    let first: [bool; 7] = [true, false, true, false, false, true, false];
-    let turned: [bool; 7] = [true, false, true, true, true, true, false];
-    for (rule, (first, turned)) in LARGEST.iter().zip(first.iter().zip(&turned)) {
+    // for each formula what it says of (5, 2) and of (2, 5)
+    let wanted: [(bool, bool); 7] = [
+        (true, true),
+        (false, false),
+        (true, true),
+        (false, true),
+        (false, true),
+        (true, true),
+        (false, false),
+    ];
+    for (rule, (first, turned)) in LARGEST.iter().zip(&wanted) {
         assert_eq!(rt; rule.allows(5, 2), *first);
         assert_eq!(rt; rule.allows(2, 5), *turned);
     }

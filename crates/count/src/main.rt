@@ -7,6 +7,7 @@ use std::io::{BufRead, BufReader};
 use std::{env, io};
 
 // Writes what was counted, `name=count` for each; a run of 8 is eight or more.
+// No Display of the counts: it would not know r, and a promise of its bytes is past what the check computes.
 fn show(rt: &HostRuntime, line: u64, r: u32, c: Counts) -> io::Result<()> {
     print!(rt;
         "line {line}: always={} equal={} different={}",

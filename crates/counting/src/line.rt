@@ -13,7 +13,7 @@ fn is_blank(b: u8) -> bool
     matches!(b, b' ' | b'\t' | b'\r')
 }
 
-// The number that a word writes.
+// The number that a word writes. No parse: a number past the largest is held there, and so is above every hatching.
 fn number(word: &[u8]) -> Option<u32>
     ensures { result ≡ number_of word.now }
 {

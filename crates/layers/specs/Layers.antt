@@ -15,6 +15,10 @@ Arrives k layer From w s = (v : ℕ) × (From v × Image k (slice_index layer v)
 abbrev pub Departs : Machine → ℕ → List ℕ → (ℕ → Type 0) → ℕ → ℕ → Type 0
 Departs k states layer To v s = (w : ℕ) × (To w × Preimage k states v w (slice_index layer w) s)
 
+-- a closure may be called at each hatching, where Pre v says that it may at v
+abbrev pub TakesHatchings : (ℕ → Type 0) → Type 0
+TakesHatchings Pre = (v : ℕ) → v < 32 → Pre v
+
 -- the layer has at each hatching v of the palette a set that is given for v, and at the others no state
 pub record IsLaid (given : ℕ → ℕ → Type 0) (palette : ℕ) (layer : List ℕ) : Type 0 where
   pub size : length layer ≡ 32

@@ -32,7 +32,7 @@ pub fn first_row_into(set: u64) -> u64
     four | four << 32
 }
 
-// Each cell a row down. The shift loses the last row, which stays.
+// Each cell a row down. The shift loses the last row, which stays. (Beside one_up: see there.)
 pub fn row_down(set: u64) -> u64
     ensures { Holds result (Image row_down set) }
 {

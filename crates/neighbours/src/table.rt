@@ -29,6 +29,7 @@ fn row_of<R: NeighbourRule>(rule: &R, used: u32, v: u32) -> u32
 }
 
 // The same for each hatching of the set.
+// Not one function with the layers' layer_of, of words of 64 bits: it would be public too.
 fn table_of<R: NeighbourRule>(rule: &R, used: u32) -> [u32; 32]
     ensures { HoldsEach result (λ v w. In v used × (In w used × (R.pairs rule.now v w ≡ true))) }
 {

@@ -41,6 +41,7 @@ pub trait Tally {
     }
 
     // The states of the set that the step from v to w takes into the target.
+    // A loop that sifts, as image is one that collects: here too a common function would require a closure to be callable.
     fn preimage(&self, set: u64, v: u32, w: u32, target: u64) -> u64
         ensures { Holds result (Preimage (machine self.now) set v w target) }
     {

@@ -2,6 +2,7 @@
 // After part i, the strip's first i + 1 bytes begin that row, and s is its tally there.
 ghost use Rattle.std.specs.Prelude.{◌≡◌, ℕ, ◌+◌, ◌*◌, ◌<◌, ◌≤◌, true, length, MatchResult, slice_index};
 ghost use Rattle.words.specs.Sets.{In, Lowest};
+ghost use Rattle.layers.specs.Layers.{TakesHatchings};
 ghost use Rattle.layers.specs.Scratch.{HasRoom, Lives, SameFrom, Shortens};
 ghost use Rattle.verdicts.specs.Verdicts.{Fills, IsLowest};
 ghost use Rattle.layers.specs.Rows.{model};
@@ -13,7 +14,7 @@ use words::{WordSet, members};
 
 // The lowest hatching of the palette that passes the test.
 fn lowest<F: Fn(u32) -> bool>(palette: u32, test: F) -> Option<u32>
-    requires { (v : ℕ) → v < 32 → F.pre test v }
+    requires { TakesHatchings (F.pre test) }
     ensures { IsLowest (F.post test) palette result }
 {
     members(palette).find(
@@ -32,6 +33,7 @@ fn first_hatching<T: Tally>(tally: &T, palette: u32, live: &[u64]) -> Option<u32
 }
 
 // The lowest hatching of the palette with which a complete row goes on at part i, after v and the state s.
+// Words are read by their place in the whole slice, of which the contract and what live states are speak.
 fn next_hatching<R: NeighbourRule, T: Tally>(
     rule: &R,
     tally: &T,

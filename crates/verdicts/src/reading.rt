@@ -1,5 +1,6 @@
 // What the live states tell of the complete rows.
 // Each contract says which words are read, and what that means where they hold the live states of a row.
+// Slice and part are handed on as two: a struct of both would be made at each call for that call alone.
 ghost use Rattle.std.specs.Prelude.{◌≡◌, ℕ, suc, ◌<◌, ◌≤◌, ◌↔◌, IsTrue, length, slice_index};
 ghost use Rattle.words.specs.Sets.{In, Holds};
 ghost use Rattle.verdicts.specs.Verdicts.{PartHas, WhereLive, WordHas};
