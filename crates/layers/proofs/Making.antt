@@ -9,14 +9,14 @@ use Rattle.layers.specs.Layers.{IsLaid, IsUnited}
 
 -- what the loop keeps true of a set that unites what was given: it has the states of a layer that is filled so
 abbrev pub Uniting : (ℕ → ℕ → Type 0) → ℕ → ℕ → ℕ → Type 0
-Uniting given whole rest all = (layer : List ℕ) × (Filling given whole rest layer × Holds all (λ s. (v : ℕ) × In s (get_or layer v 0)))
+Uniting given whole rest all = (layer : List ℕ) × (Filling 32 given whole rest layer × Holds all (λ s. (v : ℕ) × In s (get_or layer v 0)))
 
 module _ (given : ℕ → ℕ → Type 0) (whole : ℕ) where
   pub unite_none : (rest : ℕ) → rest ≡ whole → Uniting given whole rest 0
   unite_none rest e = (
     replicate 32 0,
     (
-      fill_none given whole rest e,
+      fill_none 32 given whole rest e,
       λ s. (λ i. absurd ((holds_zero s).0 i), λ t. absurd ((holds_zero s).0 (subst (In s) (none_there 32 t.0) t.1))),
     ),
   )
@@ -25,7 +25,7 @@ module _ (given : ℕ → ℕ → Type 0) (whole : ℕ) where
   pub unite_more : (rest less m x all r : ℕ) → Takes 32 rest (Some m) less → given m x → Holds r (λ s. In s all ⊎ In s x)
       → Uniting given whole rest all → Uniting given whole less r
   unite_more rest less m x all r taken gives joined (layer, (h, holds)) =
-      (set layer m x, (fill_more given whole rest less m x layer taken gives h, λ s. (λ i. into s ((joined s).0 i), λ t. (joined s).1 (out s t.0 t.1))))
+      (set layer m x, (fill_more 32 given whole 32 rest less m x layer taken taken.0 gives h, λ s. (λ i. into s ((joined s).0 i), λ t. (joined s).1 (out s t.0 t.1))))
     where
       here : get_or (set layer m x) m 0 ≡ x
       here = get_or-set_same layer m x 0 (omega (arith, taken.0, h.size))

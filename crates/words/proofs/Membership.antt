@@ -1,10 +1,10 @@
 -- What each operation of a set does to its members, at a word of n bits. Assumes nothing.
-use Rattle.std.proofs.Common.{◌≡◌, ℕ, zero, suc, ◌+◌, ◌-◌, ◌*◌, ◌/◌, ◌%◌, ◌^◌, ◌<◌, ◌≤◌, min, max, eqb, ◌⊎◌, Decides, sym, refl, ap, ◌∙◌, subst, inl, inr, pow-suc, mod-lt, arith}
+use Rattle.std.proofs.Common.{◌≡◌, ℕ, zero, suc, ◌+◌, ◌-◌, ◌*◌, ◌/◌, ◌%◌, ◌^◌, ◌<◌, ◌≤◌, min, max, eqb, ltb, ◌⊎◌, Decides, sym, refl, ap, ◌∙◌, subst, inl, inr, pow-suc, mod-lt, arith}
 use lib.Arith.{bin_ind}
 use lib.Bits.{bit_and, bit_or, and_mask}
 use lib.Count.{count_trailing_zeros, under}
 use Rattle.std.proofs.lemmas.Nat.{one_shl, pow_below, pow_pos, shr_le}
-use Rattle.std.proofs.lemmas.Bool.{eqb-true, eq-eqb, cases_eq}
+use Rattle.std.proofs.lemmas.Bool.{eqb-true, eq-eqb, ltb-true, lt-ltb, cases_eq}
 use Rattle.words.specs.Sets.{bit, In, Holds}
 use Rattle.words.proofs.Bits.{bit_lt, bit_mod, bit_zero, bit_low, bit_shr, bit_half, bit_bit_or, bit_bit_and, shown_bit, only, only_same, only_other, bit_shl, bit_not, in_below, no_bits}
 
@@ -21,10 +21,6 @@ decides_zero w = (
     zero_of : (k : ℕ) → (In k w → ⊥) → bit w k ≡ 0
     zero_of k no_k = elim (cases_eq (bit w k) 1) [ inl i ↦ absurd (no_k i) | inr ne ↦ omega (arith, bit_lt w k) ]
 
--- a set cut down to n bits, where all its numbers are below n
-pub narrowed : (n a r : ℕ) (P : ℕ → Type 0) → Holds r (λ k. In k a × (k < n)) → ((k : ℕ) → P k → k < n) → Holds a P → Holds r P
-narrowed n a r P cut below h k = (λ i. (h k).0 ((cut k).0 i).0, λ p. (cut k).1 ((h k).1 p, below k p))
-
 -- the lowest n bits of a word
 pub holds_low : (n w : ℕ) → Holds (bit_and w (2 ^ n - 1)) (λ k. In k w × (k < n))
 holds_low n w = subst (λ (x : ℕ). Holds x (λ k. In k w × (k < n))) (sym (and_mask w n)) cut
@@ -35,21 +31,14 @@ holds_low n w = subst (λ (x : ℕ). Holds x (λ k. In k w × (k < n))) (sym (an
       λ t. bit_mod w n k t.1 ∙ t.0,
     )
 
--- k put into a word of more bits, which is then cut down to n
-pub put_in : (n w m r k : ℕ) → (k < 64) → ((j : ℕ) → In j w → j < n)
-    → Holds r (λ j. In j m × (j < n)) → Holds m (λ j. In j w ⊎ ((j ≡ k) × (k < 64))) → Holds r (λ j. In j w ⊎ ((j ≡ k) × (k < n)))
-put_in n w m r k small below cut h j = (
-  λ i. let t = (cut j).0 i in elim ((h j).0 t.0) [ inl old ↦ inl old | inr e ↦ inr (e.0, subst (λ (x : ℕ). x < n) e.0 t.1) ],
-  λ t. (cut j).1 (elim t [
-    | inl old ↦ ((h j).1 (inl old), below j old)
-    | inr e ↦ ((h j).1 (inr (e.0, small)), subst (λ (x : ℕ). x < n) (sym e.0) e.1)
-  ]),
-)
-
 -- `w >> k & 1 == 1`
 pub decides_member : (w k : ℕ) → Decides (eqb (bit_and (w / 2 ^ k) 1) 1) (In k w)
 decides_member w k =
     (λ t. sym (shown_bit w k) ∙ eqb-true (bit_and (w / 2 ^ k) 1) 1 t, λ i. eq-eqb (bit_and (w / 2 ^ k) 1) 1 (shown_bit w k ∙ i))
+
+-- a test that k is below the width, for a k that is not
+pub decides_past : (n w k : ℕ) → w < 2 ^ n → n ≤ k → Decides (ltb k n) (In k w)
+decides_past n w k fits past = (λ t. absurd (omega (arith, ltb-true k n t)), λ i. lt-ltb k n (in_below n w k fits i))
 
 pub holds_union : (a b : ℕ) → Holds (bit_or a b) (λ k. In k a ⊎ In k b)
 holds_union a b k = (into, out)
@@ -99,6 +88,13 @@ module _ (n w k : ℕ) (small : k < n) where
       out : In j w × (j ≡ k → ⊥) → In j (bit_and w (2 ^ n - 1 - (1 * 2 ^ k) % 2 ^ n))
       out (member, ne) = omega (arith, is (in_below n w j fits member), only_other k j ne)
 
+-- a number past the width is neither put in nor taken out
+pub holds_with_past : (n w k : ℕ) → n ≤ k → Holds w (λ j. In j w ⊎ ((j ≡ k) × (k < n)))
+holds_with_past n w k past j = (inl, λ t. elim t [ inl i ↦ i | inr e ↦ absurd (omega (arith, e.1)) ])
+
+pub holds_without_past : (n w k : ℕ) → w < 2 ^ n → n ≤ k → Holds w (λ j. In j w × (j ≡ k → ⊥))
+holds_without_past n w k fits past j = (λ i. (i, λ e. omega (arith, in_below n w j fits i)), λ t. t.0)
+
 -- the trailing zeros are the lowest member
 pub lowest_in : (n w : ℕ) → 0 < w → w < 2 ^ n → (In (count_trailing_zeros n w) w) × ((j : ℕ) → j < count_trailing_zeros n w → In j w → ⊥)
 unfolding count_trailing_zeros
@@ -138,12 +134,18 @@ lowest_above n w from fits some = (omega arith, sym (bit_shr w from (count_trail
         let e : from + (j - from) ≡ j = omega arith in
         low.1 (j - from) (omega arith) (bit_shr w from (j - from) ∙ ap (bit w) e ∙ i)
 
+pub lowest_inside : (n w from : ℕ) → w < 2 ^ n → (w / 2 ^ from ≡ 0 → ⊥) → from + count_trailing_zeros n (w / 2 ^ from) < n
+lowest_inside n w from fits some = in_below n w (from + count_trailing_zeros n (w / 2 ^ from)) fits (lowest_above n w from fits some).1
+
 -- nothing is left of `w >> from`
 pub none_above : (w from : ℕ) → w / 2 ^ from ≡ 0 → (k : ℕ) → from ≤ k → In k w → ⊥
 none_above w from e k l i =
     let at : from + (k - from) ≡ k = omega arith in
     let shown : bit (w / 2 ^ from) (k - from) ≡ 1 = bit_shr w from (k - from) ∙ ap (bit w) at ∙ i in
     omega (arith, shown, ap (λ (x : ℕ). bit x (k - from)) e, bit_zero (k - from))
+
+pub none_past : (n w from : ℕ) → w < 2 ^ n → n ≤ from → (k : ℕ) → from ≤ k → In k w → ⊥
+none_past n w from fits past k l i = omega (arith, in_below n w k fits i)
 
 pub holds_intersection : (a b : ℕ) → Holds (bit_and a b) (λ k. In k a × In k b)
 holds_intersection a b k = (

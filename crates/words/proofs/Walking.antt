@@ -99,12 +99,12 @@ gather_value f whole n rest less s all r m taken is small joined h =
     gather_more (λ p k. f p ≡ k) whole n rest less s all r taken
     (joined_one n all r m (λ k. f s ≡ k) joined small (λ k. (λ e. sym e ∙ is, λ e. is ∙ sym e))) h
 
--- ---- a list of 32 sets that gets one for each member: given v x says that x may be the set of the member v
+-- ---- a list of m sets that gets one for each member: given v x says that x may be the set of the member v
 
 -- what the loop keeps true: the members that it has left behind have what was given for them, the others the empty set
-pub record Filling (given : ℕ → ℕ → Type 0) (whole rest : ℕ) (sets : List ℕ) : Type 0 where
+pub record Filling (m : ℕ) (given : ℕ → ℕ → Type 0) (whole rest : ℕ) (sets : List ℕ) : Type 0 where
   pub within : Within rest whole
-  pub size : length sets ≡ 32
+  pub size : length sets ≡ m
   pub laid : (v : ℕ) → In v whole → (In v rest → ⊥) → given v (get_or sets v 0)
   pub empty : (v : ℕ) → (In v whole → In v rest) → get_or sets v 0 ≡ 0
 
@@ -112,19 +112,19 @@ pub record Filling (given : ℕ → ℕ → Type 0) (whole rest : ℕ) (sets : L
 pub none_there : (n v : ℕ) → get_or (replicate {A = ℕ} n 0) v 0 ≡ 0
 none_there n v = elim (cases_lt v n) [ inl l ↦ get_or-replicate n v 0 0 l | inr l ↦ get_or_past (replicate n 0) v 0 (rw (length-replicate {A = ℕ} n 0) l) ]
 
-module _ (given : ℕ → ℕ → Type 0) (whole : ℕ) where
-  pub fill_none : (rest : ℕ) → rest ≡ whole → Filling given whole rest (replicate 32 0)
+module _ (m : ℕ) (given : ℕ → ℕ → Type 0) (whole : ℕ) where
+  pub fill_none : (rest : ℕ) → rest ≡ whole → Filling m given whole rest (replicate m 0)
   fill_none rest e = record {
     within = λ v i. subst (In v) e i;
-    size = refl;
+    size = length-replicate {A = ℕ} m 0;
     laid = λ v i gone. absurd (gone (subst (In v) (sym e) i));
-    empty = λ v h. none_there 32 v;
+    empty = λ v h. none_there m v;
   }
 
-  -- the member s gets the set x
-  pub fill_more : (rest less s x : ℕ) (sets : List ℕ) → Takes 32 rest (Some s) less → given s x
-      → Filling given whole rest sets → Filling given whole less (set sets s x)
-  fill_more rest less s x sets taken gives h = record {
+  -- the member s, of a set of n bits, gets the set x
+  pub fill_more : (n rest less s x : ℕ) (sets : List ℕ) → Takes n rest (Some s) less → s < m → given s x
+      → Filling m given whole rest sets → Filling m given whole less (set sets s x)
+  fill_more n rest less s x sets taken small gives h = record {
     within = λ v i. h.within v ((taken.3 v).0 i).0;
     size = length-set sets s x ∙ h.size;
     laid = λ v i gone. elim (cases_eq v s) [
@@ -138,7 +138,7 @@ module _ (given : ℕ → ℕ → Type 0) (whole : ℕ) where
   }
     where
       fits : s < length sets
-      fits = omega (arith, taken.0, h.size)
+      fits = omega (arith, small, h.size)
 
 -- sets of which the members' are known and the others are empty
 pub each_holds : (whole : ℕ) (sets : List ℕ) (P : ℕ → ℕ → Type 0) → ((v : ℕ) → In v whole → Holds (get_or sets v 0) (P v))
@@ -152,7 +152,7 @@ each_holds whole sets P members others v s = (
 )
 
 -- and so where the loop has left all members behind
-pub fill_holds : (F : ℕ → ℕ → Type 0) (whole rest : ℕ) (sets : List ℕ) → ((k : ℕ) → In k rest → ⊥)
-    → Filling (λ v x. Holds x (F v)) whole rest sets → HoldsEach sets (λ v k. In v whole × F v k)
-fill_holds F whole rest sets done h =
+pub fill_holds : (m : ℕ) (F : ℕ → ℕ → Type 0) (whole rest : ℕ) (sets : List ℕ) → ((k : ℕ) → In k rest → ⊥)
+    → Filling m (λ v x. Holds x (F v)) whole rest sets → HoldsEach sets (λ v k. In v whole × F v k)
+fill_holds m F whole rest sets done h =
     each_holds whole sets F (λ v i. h.laid v i (done v)) (λ v no. h.empty v (λ i. absurd (no i)))
