@@ -9,17 +9,23 @@ use Rattle.record.specs.declared.record.Record.{Record}
 use Rattle.record.specs.declared.refusal.Refusal.{Refusal}
 use Rattle.record.specs.declared.refusal.Refusal.TheVariants.{NoRow, WrongSize, NoPart, FullMarks, NoMark}
 use Rattle.record.specs.declared.stand.Stand.{Stand}
-use Rattle.record.specs.declared.stand.Stand.TheVariants.{Open}
-use Rattle.record.specs.Calls.{SameSize, SameMarks, Lays, Withdraws, Limits, Saves, GoesBack}
+use Rattle.record.specs.declared.stand.Stand.TheVariants.{Blank, Open}
+use Rattle.record.specs.Calls.{SameSize, SameMarks, NothingLaid, Lays, Withdraws, Limits, Saves, GoesBack}
 use Rattle.record.specs.Refusals.{checked, out_of_range, lay_refusal, withdraw_refusal, limit_refusal, settle_refusal, mark_refusal, back_refusal}
 use Rattle.record.specs.Replies.{By, Replies}
 use Rattle.record.specs.Stands.{is_blank, OpensIf}
 use Rattle.layers.specs.Rows.{Model}
 use Rattle.bare.specs.Agreement.{Judged, MomentAgrees, MarksAgree, Agrees}
-use Rattle.bare.specs.Bare.{Bare, Has, without, Lay, Withdraw, Limit, Settle, Mark, Back}
+use Rattle.bare.specs.Bare.{Bare, Has, blank, without, Lay, Withdraw, Limit, Settle, Mark, Back}
 use Rattle.bare.specs.Settling.{Settles, parts_of}
 use Rattle.bare.proofs.Agreeing.{iff_back, iff_on, Loses, agrees_laid, with, has_with, agrees_with, agrees_still, agrees_fewer, opens_like, marks_more}
 use Rattle.bare.proofs.Striking.{Fewer, SameRows, SomeRow, Struck, holds_less, none_less, none_struck, struck_set, struck_take, fewer_struck, fewer_limited, same_used, some_like}
+
+-- before the first lay
+pub agrees_blank : (m : Model) (a : Record) → NothingLaid a → Agrees m blank a
+agrees_blank m a nothing =
+    agrees_laid m a 0 0 0 [] Blank (λ judged. judged) nothing.n nothing.d refl refl
+    (ap (λ (c : Moment). c.results) nothing.current) (ap (λ (c : Moment). c.stand) nothing.current) nothing.marks
 
 -- ---- what becomes of the row's complete rows
 

@@ -1,10 +1,10 @@
 -- Palettes that have a hatching at or above d. Assumes nothing.
-use Rattle.std.proofs.Common.{◌≡◌, ℕ, zero, suc, ◌^◌, ◌<◌, ◌≤◌, false, List, [], ◌∷◌, get_or, Decides, inl, inr, arith}
+use Rattle.std.proofs.Common.{◌≡◌, ℕ, zero, suc, ◌^◌, ◌<◌, ◌≤◌, false, List, [], ◌∷◌, get_or, is_some, Some, None, Decides, Option, sym, inl, inr, arith}
 use Rattle.std.proofs.lemmas.Nat.{le-div, pow_pos}
-use Rattle.std.proofs.lemmas.Bool.{leb-true, le-leb, leb-false, cases_lt, or_parts}
+use Rattle.std.proofs.lemmas.Bool.{leb-true, le-leb, leb-false, cases_Bool, cases_lt, or_parts}
 use Rattle.words.proofs.Bits.{in_below}
 use Rattle.words.proofs.Membership.{holds_zero, lowest_above}
-use Rattle.words.specs.Sets.{In}
+use Rattle.words.specs.Sets.{In, Lowest}
 use Rattle.record.specs.Refusals.{too_high, any_too_high}
 
 -- of a word of n bits, the test tells whether it has one
@@ -16,6 +16,14 @@ decides_high n d w fits = (
     | inr more ↦ le-leb (2 ^ d) w more
   ],
 )
+
+-- what was looked for at or above d was found
+pub found_high : (n d w : ℕ) (found : Option ℕ) → w < 2 ^ n → Lowest (λ v. In v w) d found → is_some found ≡ too_high d w
+found_high n d w (Some v) fits low = sym ((decides_high n d w fits).1 (v, (low.0, low.1)))
+found_high n d w None fits none = elim (cases_Bool (too_high d w)) [
+  | inl yes_high ↦ let t = (decides_high n d w fits).0 yes_high in absurd (none t.0 t.1.0 t.1.1)
+  | inr not_high ↦ sym not_high
+]
 
 -- of a list of palettes, none of them so high
 pub each_low : (d : ℕ) (ws : List ℕ) → any_too_high d ws ≡ false → (i v : ℕ) → In v (get_or ws i 0) → v < d

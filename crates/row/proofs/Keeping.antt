@@ -1,5 +1,5 @@
 -- What is left of palettes and results is what complete rows use and have. Assumes nothing.
-use Rattle.std.proofs.Common.{◌≡◌, ℕ, ◌+◌, ◌-◌, ◌*◌, ◌<◌, ◌≤◌, List, ◌++◌, length, get_or, take, drop, sym, refl, ap, ◌∙◌, subst, inl, inr, arith}
+use Rattle.std.proofs.Common.{◌≡◌, ℕ, ◌+◌, ◌-◌, ◌*◌, ◌<◌, ◌≤◌, List, ◌++◌, length, get_or, take, drop, Some, None, Option, sym, refl, ap, ◌∙◌, subst, inl, inr, arith}
 use Rattle.std.proofs.Math.Seq.{take-append_seam}
 use Rattle.std.proofs.lemmas.List.{get_or_past, get_or_append_left, get_or-append_right, get_or-drop, get_or-take, length-take}
 use Rattle.std.proofs.lemmas.Bool.{cases_lt}
@@ -11,9 +11,16 @@ use Rattle.tallies.specs.Machines.{state}
 use Rattle.layers.specs.Rows.{Model, Uses, Yields}
 use Rattle.layers.specs.Scratch.{Lives}
 use Rattle.record.specs.declared.record.Record.{Record}
+use Rattle.record.specs.declared.refusal.Refusal.{Refusal}
+use Rattle.record.specs.Replies.{By}
 use Rattle.bare.specs.Settling.{parts_of, total}
 use Rattle.verdicts.specs.Verdicts.{Palettes, WordHas}
 use Rattle.verdicts.proofs.Telling.{live_word, word_live}
+
+-- less said of a refused and of an accepted call
+pub by_less : (cause : Option Refusal) {P Q : Refusal → Type 0} {X Y : Type 0} → ((e : Refusal) → P e → Q e) → (X → Y) → By cause P X → By cause Q Y
+by_less (Some e) refused accepted t = refused e t
+by_less None refused accepted t = accepted t
 
 -- the palettes of a record have no number above 31
 pub parts_small : (a : Record) → Palettes (parts_of a)
