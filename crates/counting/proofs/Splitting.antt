@@ -1,51 +1,40 @@
--- The words of a line are its pieces between blanks, without the empty ones. Assumes nothing.
-use Rattle.std.proofs.Common.{◌≡◌, ℕ, Bool, true, false, not, ◌⊎◌, List, [], ◌∷◌, ◌++◌, length, eqb, filter, sym, refl, ap, ◌∙◌, inl, inr, arith}
-use Rattle.std.specs.List.{slice_split, onto_first}
-use Rattle.std.proofs.lemmas.List.{append-nil, append_assoc}
-use Rattle.std.proofs.lemmas.Bool.{cases_Bool, cond-true, cond-false, ne_eqb}
+-- How a line falls into words. Assumes nothing.
+use Rattle.std.proofs.Common.{◌≡◌, ℕ, zero, suc, ◌<◌, ◌≤◌, Bool, true, false, List, [], ◌∷◌, ◌++◌, length, get_or, take, drop, sym, refl, ap, ◌∙◌, ap₂, arith}
+use Rattle.std.proofs.lemmas.List.{append-nil, append_assoc, drop_all}
+use Rattle.std.proofs.lemmas.Bool.{cond-true, cond-false}
 use Rattle.counting.specs.Lines.{blank, ended, words, words_after}
 
--- a piece that is not empty
-abbrev pub inked : List ℕ → Bool
-inked [] = false
-inked (b ∷ piece) = true
+-- the first n bytes are blanks, or, where the kind is false, none is
+abbrev pub Front : Bool → List ℕ → ℕ → Type 0
+Front kind text n = (k : ℕ) → k < n → blank (get_or text k 0) ≡ kind
 
-pub inked_length : (piece : List ℕ) → not (eqb (length piece) 0) ≡ inked piece
-inked_length [] = refl
-inked_length (b ∷ piece) = ap not (ne_eqb (length (b ∷ piece)) 0 (λ e. omega (arith, e)))
+-- blanks in front make no word
+pub words_behind_blanks : (text : List ℕ) (n : ℕ) → Front true text n → words text ≡ words (drop n text)
+words_behind_blanks text zero front = refl
+words_behind_blanks [] (suc n) front = refl
+words_behind_blanks (b ∷ bs) (suc n) front =
+    cond-true (blank b) (words bs) (words_after (b ∷ []) bs) (front 0 (omega arith)) ∙ words_behind_blanks bs n (λ k l. front (suc k) (omega arith))
 
--- the pieces, where the bytes `word` stand in front of the first
-abbrev behind : List ℕ → List (List ℕ) → List (List ℕ)
-behind word [] = word ∷ []
-behind word (piece ∷ pieces) = (word ++ piece) ∷ pieces
+-- and blanks alone make none
+pub no_words : (text : List ℕ) → Front true text (length text) → words text ≡ []
+no_words text front = words_behind_blanks text (length text) front ∙ ap words (drop_all (length text) text (omega arith))
 
-behind_one : (word : List ℕ) (b : ℕ) (pieces : List (List ℕ)) → behind (word ++ (b ∷ [])) pieces ≡ behind word (onto_first b pieces)
-behind_one word b [] = refl
-behind_one word b (piece ∷ pieces) = ap (λ (w : List ℕ). w ∷ pieces) (append_assoc word (b ∷ []) piece)
+-- a word goes on to the next blank
+words_on : (word text : List ℕ) (n : ℕ) → Front false text n → (n < length text → blank (get_or text n 0) ≡ true) → words_after word text ≡ ended (word ++ take n text) (words (drop n text))
+words_on word [] zero front stops = ap (λ (w : List ℕ). ended w []) (sym (append-nil word))
+words_on word [] (suc n) front stops = ap (λ (w : List ℕ). ended w []) (sym (append-nil word))
+words_on word (b ∷ bs) zero front stops =
+    let e : blank b ≡ true = stops (omega arith) in
+    cond-true (blank b) (ended word (words bs)) (words_after (word ++ (b ∷ [])) bs) e
+    ∙ ap₂ ended (sym (append-nil word)) (sym (cond-true (blank b) (words bs) (words_after (b ∷ []) bs) e))
+words_on word (b ∷ bs) (suc n) front stops =
+    cond-false (blank b) (ended word (words bs)) (words_after (word ++ (b ∷ [])) bs) (front 0 (omega arith))
+    ∙ words_on (word ++ (b ∷ [])) bs n (λ k l. front (suc k) (omega arith)) (λ l. stops (omega arith))
+    ∙ ap (λ (w : List ℕ). ended w (words (drop n bs))) (append_assoc word (b ∷ []) (take n bs))
 
-behind_none : (pieces : List (List ℕ)) → filter inked (behind [] pieces) ≡ filter inked pieces
-behind_none [] = refl
-behind_none (piece ∷ pieces) = refl
-
-ended_inked : (word : List ℕ) (pieces : List (List ℕ)) → ended word (filter inked pieces) ≡ filter inked ((word ++ []) ∷ pieces)
-ended_inked [] pieces = refl
-ended_inked (b ∷ word) pieces = ap (λ (w : List ℕ). (b ∷ w) ∷ filter inked pieces) (sym (append-nil word))
-
-words_behind : (word text : List ℕ) → words_after word text ≡ filter inked (behind word (slice_split blank text))
-words_behind word [] = ended_inked word []
-words_behind word (b ∷ bs) = go (words_behind [] bs) (words_behind (word ++ (b ∷ [])) bs) (cases_Bool (blank b))
-  where
-    pieces : List (List ℕ)
-    pieces = slice_split blank bs
-
-    go : words bs ≡ filter inked (behind [] pieces) → words_after (word ++ (b ∷ [])) bs ≡ filter inked (behind (word ++ (b ∷ [])) pieces)
-        → (blank b ≡ true) ⊎ (blank b ≡ false) → words_after word (b ∷ bs) ≡ filter inked (behind word (slice_split blank (b ∷ bs)))
-    go next more (inl e) =
-        cond-true (blank b) (ended word (words bs)) (words_after (word ++ (b ∷ [])) bs) e ∙ ap (ended word) (next ∙ behind_none pieces) ∙ ended_inked word pieces
-        ∙ ap (λ (ps : List (List ℕ)). filter inked (behind word ps)) (sym (cond-true (blank b) ([] ∷ pieces) (onto_first b pieces) e))
-    go next more (inr e) =
-        cond-false (blank b) (ended word (words bs)) (words_after (word ++ (b ∷ [])) bs) e ∙ more ∙ ap (filter inked) (behind_one word b pieces)
-        ∙ ap (λ (ps : List (List ℕ)). filter inked (behind word ps)) (sym (cond-false (blank b) ([] ∷ pieces) (onto_first b pieces) e))
-
-pub words_pieces : (line : List ℕ) → filter inked (slice_split blank line) ≡ words line
-words_pieces line = sym (words_behind [] line ∙ behind_none (slice_split blank line))
+-- a text that does not begin with a blank begins with a word
+pub first_word : (text : List ℕ) (n : ℕ) → 0 < n → n ≤ length text → Front false text n → (n < length text → blank (get_or text n 0) ≡ true)
+    → words text ≡ take n text ∷ words (drop n text)
+first_word text zero some within front stops = absurd (omega arith)
+first_word [] (suc n) some within front stops = absurd (omega arith)
+first_word (b ∷ bs) (suc n) some within front stops = words_on [] (b ∷ bs) (suc n) front stops

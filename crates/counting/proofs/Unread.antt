@@ -1,7 +1,18 @@
 -- The words of a line that were read, and the first that was not. Assumes nothing.
-use Rattle.std.proofs.Common.{◌≡◌, ℕ, ◌+◌, ◌<◌, ◌≤◌, true, List, [], ◌∷◌, ◌++◌, map, length, get_or, take, is_some, Some, None, Option, sym, ap, ◌∙◌, ap₂, arith}
-use Rattle.std.proofs.lemmas.List.{get_or_default, get_or-map, get_or-take, length-map, length-take-le, map-append, take_more}
+use Rattle.std.proofs.Common.{◌≡◌, ℕ, ◌+◌, ◌<◌, ◌≤◌, true, List, [], ◌∷◌, ◌++◌, map, length, get_or, take, drop, is_some, Some, None, Option, sym, ap, ◌∙◌, ap₂, arith, length-drop}
+use Rattle.std.proofs.lemmas.List.{drop_more, get_or_default, get_or-map, get_or-take, length-map, length-take-le, map-append, take_more}
 use Rattle.counting.specs.Lines.{FirstUnread, number_of}
+
+-- where a word is the first behind n others
+pub next_read : (ws : List (List ℕ)) (n : ℕ) (word : List ℕ) (behind : List (List ℕ)) → drop n ws ≡ word ∷ behind
+    → ((n < length ws) × (word ≡ get_or ws n word)) × (behind ≡ drop (n + 1) ws)
+next_read ws n word behind left = ((inside, ap (λ (l : List (List ℕ)). get_or l 0 word) next), ap (λ (l : List (List ℕ)). drop 1 l) next)
+  where
+    inside : n < length ws
+    inside = omega (arith, length-drop n ws, ap length left)
+
+    next : word ∷ behind ≡ get_or ws n word ∷ drop (n + 1) ws
+    next = sym left ∙ drop_more ws n word inside
 
 -- the first n words write the numbers
 module _ (ws : List (List ℕ)) (n : ℕ) (ns : List ℕ) (read : map number_of (take n ws) ≡ map Some ns) where

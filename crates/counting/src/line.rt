@@ -1,5 +1,5 @@
 // A line of text as numbers apart by blanks.
-ghost use Rattle.std.specs.Prelude.{◌≡◌, MatchOption, MatchResult};
+ghost use Rattle.std.specs.Prelude.{◌≡◌, ◌<◌, [], ◌∷◌, length, IfSome, MatchOption, MatchResult};
 ghost use Rattle.counting.specs.Faults.{Unread};
 ghost use Rattle.counting.specs.Lines.{Reads, WholeNumber, blank, decimal_value, number_of, words};
 
@@ -11,6 +11,17 @@ fn is_blank(b: u8) -> bool
     ensures { result ≡ blank b }
 {
     matches!(b, b' ' | b'\t' | b'\r')
+}
+
+// The first word of a text, and what stands behind it. No split: each blank of a run would be a piece of its own.
+fn next_word(text: &[u8]) -> Option<(&[u8], &[u8])>
+    ensures word { MatchOption result (words text.now ≡ []) (λ p. words text.now ≡ p.0.now ∷ words p.1.now) }
+    ensures less { IfSome result (λ p. length p.1.now < length text.now) }
+{
+    let start = text.iter().position(|b| !is_blank(*b))?;
+    let (_, text) = text.split_at(start);
+    let end = text.iter().position(|b| is_blank(*b)).unwrap_or(text.len());
+    Some(text.split_at(end))
 }
 
 // The number that a word writes. No parse: a number past the largest is held there, and so is above every hatching.
@@ -30,9 +41,11 @@ pub fn numbers(heap: Global, line: &[u8]) -> Result<Vec<u32>, LineFault>
     ensures { MatchResult result (λ v. Reads line.now v.items) (Unread (words line.now)) }
 {
     let mut found = Vec::new(heap);
-    for word in line.split(|b| is_blank(*b)).filter(|word| !word.is_empty()) {
+    let mut rest = line;
+    while let Some((word, behind)) = next_word(rest) {
         let n = number(word).ok_or(LineFault::NoNumber(found.len()))?;
         found.push(n)?;
+        rest = behind;
     }
     Ok(found)
 }
