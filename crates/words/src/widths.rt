@@ -1,4 +1,4 @@
-// The two widths of a word: palettes are words of 32, states and results words of 64.
+// The conversions of a word of at most 64 bits: palettes are words of 32, states and results words of 64.
 ghost use Rattle.std.specs.Prelude.{◌≡◌, ℕ, ◌<◌, ◌≤◌};
 ghost use Rattle.words.specs.Sets.{In, Holds};
 ghost use Rattle.std.proofs.Common.{rules};
